@@ -1,0 +1,12 @@
+pub mod Order
+pub mod Rows
+pub mod Places
+pub mod Sets
+pub mod Graphs
+pub mod Runs
+pub mod Letters
+pub mod Same
+pub mod Digits
+pub mod NameLaws
+pub mod RunLaws
+pub mod RowsOf

@@ -1,0 +1,13 @@
+pub mod Names
+pub mod NameFields
+pub mod Sets
+pub mod Graphs
+pub mod Rules
+pub mod RuleWords
+pub mod RuleLists
+pub mod Rows
+pub mod GraphOf
+pub mod Additions
+pub mod Letters
+pub mod RowsOf
+pub mod Laws

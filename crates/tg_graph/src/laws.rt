@@ -1,0 +1,37 @@
+//! Laws of the definitions that contracts cite. Each is the contract of a function that does nothing:
+//! a proof that calls it may use the law.
+ghost use Rattle.tg_graph.specs.Laws.{NamesExactly, PrefixFirst, DifferenceDecides, SameRefusal, SameAfter, RowsOfGraph, SameRows, AcceptedLead, AcceptedAreNamed, AcceptedRun};
+
+/// A name is 1 to 16 bytes, each a letter from a to z, a digit or `_`, and the first is no digit.
+pub fn names_are_exact()
+    ensures { NamesExactly }
+{}
+
+/// Names are ordered by their bytes, a prefix first.
+pub fn names_are_ordered_by_bytes()
+    ensures prefix { PrefixFirst }
+    ensures difference { DifferenceDecides }
+{}
+
+/// Graphs with the same vertices and triples refuse the same rules, and are the same after a rule.
+pub fn same_graphs_are_treated_alike()
+    ensures refusal { SameRefusal }
+    ensures after { SameAfter }
+{}
+
+/// The row of a vertex has exactly the edges that the triples give, in name order.
+pub fn rows_are_of_the_graph()
+    ensures { RowsOfGraph }
+{}
+
+/// Graphs with the same vertices and triples have the same rows.
+pub fn same_graphs_have_the_same_rows()
+    ensures { SameRows }
+{}
+
+/// Rules that are each accepted in turn are carried out whole by `Graph::run`, unless memory is refused.
+pub fn accepted_rules_are_run()
+    ensures lead { AcceptedLead }
+    ensures named { AcceptedAreNamed }
+    ensures run { AcceptedRun }
+{}

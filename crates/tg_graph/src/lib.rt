@@ -1,0 +1,18 @@
+//! Protection graphs: names, rights, the graph and its four rules.
+#![tactic(auto)]
+
+pub mod laws;
+pub mod names;
+pub mod protection;
+pub mod right_sets;
+mod row;
+pub mod rules;
+pub mod session;
+#[cfg(test)]
+mod tests;
+
+pub use names::{Name, NameFault};
+pub use protection::{EdgeFault, Graph, VertexFault};
+pub use right_sets::{Right, Rights};
+pub use rules::{Refusal, Rule, RuleFault};
+pub use session::{Act, Reply, Step};

@@ -1,0 +1,194 @@
+//! Names of vertices.
+ghost use Rattle.std.specs.Prelude.{◌≡◌, ◌≤◌, ◌<◌, ◌+◌, Some, None, [], ◌∷◌, refl, length, bytes_eq, nat_eq, drop, decimal};
+ghost use Rattle.std.specs.Ordering.{nat_cmp};
+ghost use Rattle.std.specs.Cmp.{partial_equiv_from_equiv};
+ghost use Rattle.std.specs.Cmp.Lexicographic.{slice_cmp, pointwise, nat_list_eq_equiv, nat_list_cmp_total, texts_ties, texts_po};
+ghost use Rattle.tg_graph.specs.NameFields.{equal_hash_alike};
+ghost use Rattle.tg_graph.specs.Names.{IsName, name_of, fits_at, first_bad, helper_name, padded_to_16};
+
+use std::cmp::Ordering;
+use std::hash::{Hash, Hasher};
+use std::marker::Model;
+
+/// Why bytes are no name. Where several faults are there, the first of this list is meant.
+#[derive(Clone, Copy, PartialEq, Eq, Debug)]
+pub enum NameFault {
+    /// There are no bytes.
+    Empty,
+    /// There are more than 16 bytes.
+    TooLong,
+    /// The byte at this place, counted from 0, is the first that may not stand where it does.
+    BadByte(usize),
+}
+
+/// The name of a vertex: 1 to 16 bytes of `a` to `z`, `0` to `9` and `_`, the first not a digit.
+///
+/// Names are ordered by their bytes, a prefix first. A contract sees a name as the list of its bytes.
+#[derive(Clone, Copy, Debug)]
+pub struct Name {
+    padded: [u8; 16],
+    len: u8,
+}
+
+impl Model for Name {
+    ghost use Rattle.std.specs.Prelude.{List, ℕ, take, length};
+
+    ghost Value = { List ℕ };
+
+    ghost use Rattle.tg_graph.specs.Names.{IsPadded};
+
+    ghost view = { λ n. take n.len n.padded };
+
+    ghost invariant = { λ n. IsPadded n.padded n.len };
+
+    ghost use Rattle.tg_graph.specs.NameFields.{fields_of, fields_are};
+
+    ghost inverse = { fields_of };
+
+    ghost inverse_ok = { fields_are };
+}
+
+// Whether the byte may stand at the place of a name.
+fn fits_at(place: usize, byte: u8) -> bool
+    ensures { result ≡ fits_at place byte }
+{
+    (b'a' <= byte && byte <= b'z') || byte == b'_' || (0 < place && b'0' <= byte && byte <= b'9')
+}
+
+// The place of the first byte that may not stand where it does.
+fn first_bad(bytes: &[u8]) -> Option<usize>
+    ensures { result ≡ first_bad 0 bytes.now }
+{
+    for i in 0..bytes.len() {
+        if !fits_at(i, bytes[i]) {
+            return Some(i);
+        }
+    }
+    None
+}
+
+// The bytes, and zeros up to 16 bytes.
+fn padded(bytes: &[u8]) -> [u8; 16]
+    requires { length bytes.now ≤ 16 }
+    ensures { result ≡ padded_to_16 bytes.now }
+{
+    let mut padded = [0; 16];
+    for i in 0..bytes.len() {
+        padded[i] = bytes[i];
+    }
+    padded
+}
+
+// Writes the number in decimal so that it ends with the text, and gives the place of its first digit.
+fn write_decimal(text: &mut [u8], number: u32) -> usize
+    requires { length text.old ≡ 11 }
+    ensures start { result + length (decimal number) ≡ 11 }
+    ensures written { drop result text.new ≡ decimal number }
+{
+    let mut left = number;
+    let mut start = 11;
+    while left >= 10 {
+        start -= 1;
+        text[start] = b'0' + (left % 10) as u8;
+        left /= 10;
+    }
+    start -= 1;
+    text[start] = b'0' + left as u8;
+    start
+}
+
+impl Name {
+    /// The name that the bytes are, or the first fault for which they are none.
+    pub fn parse(bytes: &[u8]) -> Result<Name, NameFault>
+        ensures { result ≡ name_of bytes.now }
+    {
+        if bytes.is_empty() {
+            return Err(NameFault::Empty);
+        }
+        if bytes.len() > 16 {
+            return Err(NameFault::TooLong);
+        }
+        if let Some(at) = first_bad(bytes) {
+            return Err(NameFault::BadByte(at));
+        }
+        Ok(Name::from_text(bytes))
+    }
+
+    /// The name `_k`, with the number in decimal and without leading zeros for k.
+    pub fn helper(number: u32) -> Name
+        ensures { result ≡ helper_name number }
+    {
+        let mut text = [0; 11];
+        let start = write_decimal(&mut text, number);
+        text[start - 1] = b'_';
+        let bytes = &text[start - 1..];
+        Name::from_text(bytes)
+    }
+
+    // The name that the bytes are, which are a name.
+    fn from_text(bytes: &[u8]) -> Name
+        requires { IsName bytes.now }
+        ensures { result ≡ bytes.now }
+    {
+        Name {
+            padded: padded(bytes),
+            len: bytes.len() as u8,
+        }
+    }
+
+    /// The bytes of the name.
+    pub fn as_bytes(&self) -> &[u8]
+        ensures value { result.now ≡ self.now }
+        ensures valid { IsName self.now }
+    {
+        &self.padded[..self.len as usize]
+    }
+}
+
+impl PartialEq for Name {
+    ghost eq = { bytes_eq };
+
+    ghost laws = { partial_equiv_from_equiv nat_list_eq_equiv };
+
+    fn eq(&self, other: &Name) -> bool {
+        self.as_bytes() == other.as_bytes()
+    }
+}
+
+impl Eq for Name {
+    ghost laws = { nat_list_eq_equiv };
+}
+
+impl PartialOrd for Name {
+    ghost partial_cmp = { λ a b. Some (slice_cmp nat_cmp a b) };
+
+    ghost laws = { texts_po };
+
+    fn partial_cmp(&self, other: &Name) -> Option<Ordering> {
+        Some(self.cmp(other))
+    }
+}
+
+impl Ord for Name {
+    ghost cmp = { slice_cmp nat_cmp };
+
+    ghost total = { nat_list_cmp_total };
+
+    ghost matches_partial_cmp = { λ a b. refl };
+
+    ghost matches_eq = { texts_ties };
+
+    fn cmp(&self, other: &Name) -> Ordering {
+        self.as_bytes().cmp(other.as_bytes())
+    }
+}
+
+impl Hash for Name {
+    ghost hash_input = { λ n. n ∷ [] };
+
+    ghost respects_eq = { equal_hash_alike };
+
+    fn hash<H: Hasher>(&self, state: &mut H) {
+        state.write(self.as_bytes());
+    }
+}

@@ -1,0 +1,503 @@
+//! Protection graphs.
+ghost use Rattle.std.specs.Prelude.{◌≡◌, ◌<◌, ◌≤◌, ◌++◌, ◌∷◌, [], Some, None, true, false, IsTrue, IfOk, OnOk, OnErr, IsSome, bytes_eq, length, slice_get, position};
+ghost use Rattle.std.specs.Map.{lookup, keys_of};
+ghost use Rattle.indexmap.specs.IndexMap.{spare};
+ghost use Rattle.tg_graph.specs.Sets.{member, IsNamed};
+ghost use Rattle.tg_graph.specs.Rows.{label_of, is_known, has_edge, IsLabel, IsGraph, row_number, Adds, TakesAway, ChangesRow};
+ghost use Rattle.tg_graph.specs.Graphs.{has_vertex, WellFormed};
+ghost use Rattle.tg_graph.specs.GraphOf.{graph_of};
+ghost use Rattle.tg_graph.specs.Rules.{refusal_of, verdict, not_held, Applies, rights_of, with_rights, without_rights, with_vertex, after};
+ghost use Rattle.tg_graph.specs.Sets.{rights_where, is_empty_set};
+ghost use Rattle.tg_graph.specs.Additions.{AddsVertex, AddsEdge, label_at, label_between, Runs, AreNamed};
+ghost use Rattle.std.specs.Prelude.{not, ◌&&◌, MatchResult, MatchBool, if◌then◌else◌};
+
+use crate::names::Name;
+use crate::right_sets::{Right, Rights};
+use crate::row::Row;
+use crate::rules::{Refusal, Rule, RuleFault};
+use bitflags::Flags;
+use indexmap::IndexMap;
+use std::alloc::{AllocError, Global};
+use std::marker::Model;
+
+/// A protection graph: vertices, and for each two of them the rights that the first has over the second.
+///
+/// A position counts the vertices from 0, in order of insertion.
+/// A contract sees a graph as the list of its vertices with their rows; what the list stands for is `graph_of`.
+/// A call that is refused changes nothing.
+#[derive(Drop)]
+pub struct Graph {
+    rows: IndexMap<Name, Row>,
+    alloc: Global,
+}
+
+impl Model for Graph {
+    ghost use Rattle.std.specs.Prelude.{List, ℕ};
+    ghost use Rattle.tg_graph.specs.declared.right_sets.Rights.{Rights};
+
+    ghost Value = { List (List ℕ × List (List ℕ × Rights)) };
+
+    ghost use Rattle.tg_graph.specs.Rows.{IsGraph};
+
+    ghost view = { λ g. g.rows.entries };
+
+    ghost invariant = { λ g. IsGraph g.rows.entries };
+}
+
+// Adds rights to the label of an edge.
+fn widen(rows: &mut IndexMap<Name, Row>, x: Name, y: Name, rights: Rights) -> Result<(), AllocError>
+    requires named { IsNamed rights }
+    requires known { is_known rows.old.entries x ≡ true }
+    ensures widened { OnOk result
+        (ChangesRow (λ a b. Adds a b y rights) rows.old.entries rows.new.entries x) }
+    ensures err { OnErr result (rows.new.entries ≡ rows.old.entries) }
+    ensures room { spare rows.new ≡ spare rows.old }
+{
+    match rows.get_mut(&x) {
+        Some(row) => row.add(y, rights),
+        None => Ok(()),
+    }
+}
+
+// Adds an edge if there is none, and says whether there was none.
+fn link(
+    rows: &mut IndexMap<Name, Row>,
+    x: Name,
+    y: Name,
+    rights: Rights,
+) -> Result<bool, AllocError>
+    requires label { IsLabel rights }
+    requires known { is_known rows.old.entries x ≡ true }
+    ensures said { IfOk result (λ added. added ≡ not (has_edge rows.old.entries x y)) }
+    ensures linked { IfOk result (λ added. MatchBool added
+        (ChangesRow (λ a b. Adds a b y rights) rows.old.entries rows.new.entries x)
+        (rows.new.entries ≡ rows.old.entries)) }
+    ensures absent { OnErr result (has_edge rows.old.entries x y ≡ false) }
+    ensures err { OnErr result (rows.new.entries ≡ rows.old.entries) }
+{
+    match rows.get_mut(&x) {
+        Some(row) => row.add_new(y, rights),
+        None => Ok(false),
+    }
+}
+
+// Adds a vertex with no edges, for which there is room.
+fn append(rows: &mut IndexMap<Name, Row>, alloc: Global, n: Name)
+    requires room { 0 < spare rows.old }
+    requires fresh { is_known rows.old.entries n ≡ false }
+    ensures { rows.new.entries ≡ rows.old.entries ++ (n, []) ∷ [] }
+{
+    let _ = rows.insert(n, Row::new(alloc));
+}
+
+/// Why a vertex was not added.
+#[derive(Clone, Copy, PartialEq, Eq, Debug)]
+pub enum VertexFault {
+    /// The name is a vertex already.
+    Taken,
+    /// A request for memory was refused.
+    Memory,
+}
+
+impl From<AllocError> for VertexFault {
+    ghost use Rattle.std.specs.Prelude.{◌≡◌};
+    ghost use Rattle.tg_graph.specs.declared.protection.VertexFault.TheVariants.{Memory};
+
+    ghost from_gives = { λ _ fault. fault ≡ Memory };
+
+    fn from(_error: AllocError) -> VertexFault {
+        VertexFault::Memory
+    }
+}
+
+/// Why an edge was not added. Where several reasons are there, the first of this list is meant.
+#[derive(Clone, Copy, PartialEq, Eq, Debug)]
+pub enum EdgeFault {
+    /// The name is no vertex. The edge's source is looked at before its target.
+    Unknown(Name),
+    /// There is an edge from the source to the target.
+    EdgeThere,
+    /// The label is empty.
+    Empty,
+    /// A request for memory was refused.
+    Memory,
+}
+
+impl From<AllocError> for EdgeFault {
+    ghost use Rattle.std.specs.Prelude.{◌≡◌};
+    ghost use Rattle.tg_graph.specs.declared.protection.EdgeFault.TheVariants.{Memory};
+
+    ghost from_gives = { λ _ fault. fault ≡ Memory };
+
+    fn from(_error: AllocError) -> EdgeFault {
+        EdgeFault::Memory
+    }
+}
+
+impl Graph {
+    /// The empty graph.
+    pub fn new(alloc: Global) -> Graph
+        ensures { result ≡ [] }
+    {
+        Graph {
+            rows: IndexMap::new(alloc),
+            alloc,
+        }
+    }
+
+    /// How many vertices there are.
+    pub fn len(&self) -> usize
+        ensures value { result ≡ length self.now }
+        ensures well_formed { WellFormed (graph_of self.now) }
+        ensures graph { IsGraph self.now }
+    {
+        self.rows.len()
+    }
+
+    /// Whether a name is a vertex.
+    pub fn knows(&self, name: Name) -> bool
+        ensures { result ≡ has_vertex (graph_of self.now) name }
+    {
+        self.rows.contains_key(&name)
+    }
+
+    /// The position of a vertex, or `None` for a name that is no vertex.
+    pub fn position(&self, name: Name) -> Option<usize>
+        ensures { result ≡ position (bytes_eq name) (keys_of self.now) }
+    {
+        self.rows.get_index_of(&name)
+    }
+
+    /// The vertex at a position, or `None` past the last.
+    pub fn name_at(&self, position: usize) -> Option<Name>
+        ensures { result ≡ slice_get (keys_of self.now) position }
+    {
+        match self.rows.get_index(position) {
+            Some((name, _)) => Some(*name),
+            None => None,
+        }
+    }
+
+    // The label of the edge from x to y, empty where there is none.
+    fn label_between(&self, x: Name, y: Name) -> Rights
+        ensures value { result ≡ label_of self.now x y }
+        ensures label { result ≡ label_between (graph_of self.now) x y }
+        ensures named { IsNamed result }
+    {
+        match self.rows.get(&x) {
+            Some(row) => row.label(y),
+            None => Rights::empty(),
+        }
+    }
+
+    /// Whether x has a right over y. Where one of them is no vertex, it has not.
+    pub fn holds(&self, x: Name, right: Right, y: Name) -> bool
+        ensures { result ≡ (graph_of self.now).holds x right y }
+    {
+        self.label_between(x, y).has(right)
+    }
+
+    // Adds rights to the label of an edge.
+    fn give(&mut self, x: Name, y: Name, rights: Rights) -> Result<(), AllocError>
+        requires named { IsNamed rights }
+        requires source { has_vertex (graph_of self.old) x ≡ true }
+        requires target { has_vertex (graph_of self.old) y ≡ true }
+        ensures given { OnOk result
+            (graph_of self.new ≡ with_rights (graph_of self.old) x y rights) }
+        ensures err { OnErr result (self.new ≡ self.old) }
+    {
+        widen(&mut self.rows, x, y, rights)?;
+        Ok(())
+    }
+
+    // Adds an edge if there is none, and says whether there was none.
+    fn join(&mut self, x: Name, y: Name, rights: Rights) -> Result<bool, AllocError>
+        requires label { IsLabel rights }
+        requires source { has_vertex (graph_of self.old) x ≡ true }
+        requires target { has_vertex (graph_of self.old) y ≡ true }
+        ensures said { IfOk result
+            (λ added. added ≡ is_empty_set (label_between (graph_of self.old) x y)) }
+        ensures joined { IfOk result (λ added. MatchBool added
+            (graph_of self.new ≡ with_rights (graph_of self.old) x y rights) (self.new ≡ self.old)) }
+        ensures absent { OnErr result
+            (is_empty_set (label_between (graph_of self.old) x y) ≡ true) }
+        ensures err { OnErr result (self.new ≡ self.old) }
+    {
+        let added = link(&mut self.rows, x, y, rights)?;
+        Ok(added)
+    }
+
+    /// Adds a vertex with no edges, as the last.
+    pub fn add_vertex(&mut self, n: Name) -> Result<(), VertexFault>
+        ensures added { AddsVertex (graph_of self.old) n result (graph_of self.new) }
+        ensures kept { OnErr result (self.new ≡ self.old) }
+    {
+        if self.knows(n) {
+            return Err(VertexFault::Taken);
+        }
+        let _ = n.as_bytes();
+        self.rows.reserve(1)?;
+        append(&mut self.rows, self.alloc, n);
+        Ok(())
+    }
+
+    // Adds a vertex, over which x has the rights.
+    fn create(&mut self, x: Name, n: Name, rights: Rights) -> Result<(), AllocError>
+        requires named { IsNamed rights }
+        requires source { has_vertex (graph_of self.old) x ≡ true }
+        requires fresh { has_vertex (graph_of self.old) n ≡ false }
+        ensures created { OnOk result
+            (graph_of self.new ≡ with_rights (with_vertex (graph_of self.old) n) x n rights) }
+        ensures err { OnErr result (self.new ≡ self.old) }
+    {
+        let _ = n.as_bytes();
+        self.rows.reserve(1)?;
+        widen(&mut self.rows, x, n, rights)?;
+        append(&mut self.rows, self.alloc, n);
+        Ok(())
+    }
+
+    // The first refusal of a take.
+    #[tactic(auto, unfolding(crate::specs::Rules::refusal_of, crate::specs::Rules::after))]
+    fn check_take(&self, x: Name, y: Name, z: Name, rights: Rights) -> Result<(), Refusal>
+        requires { IsNamed rights }
+        ensures { result ≡ verdict (refusal_of (graph_of self.now) (Rule.Take x y z rights)) }
+    {
+        if !self.knows(x) {
+            return Err(Refusal::Unknown(x));
+        }
+        if !self.knows(y) {
+            return Err(Refusal::Unknown(y));
+        }
+        if !self.knows(z) {
+            return Err(Refusal::Unknown(z));
+        }
+        if rights.is_empty() {
+            return Err(Refusal::Empty);
+        }
+        if !self.holds(x, Right::T, y) {
+            return Err(Refusal::NoTake);
+        }
+        not_held(missing(rights, self.label_between(y, z)))
+    }
+
+    // The first refusal of a create.
+    #[tactic(auto, unfolding(crate::specs::Rules::refusal_of, crate::specs::Rules::after))]
+    fn check_create(&self, x: Name, n: Name, rights: Rights) -> Result<(), Refusal>
+        ensures { result ≡ verdict (refusal_of (graph_of self.now) (Rule.Create x n rights)) }
+    {
+        if !self.knows(x) {
+            return Err(Refusal::Unknown(x));
+        }
+        if self.knows(n) {
+            return Err(Refusal::Taken(n));
+        }
+        Ok(())
+    }
+}
+
+impl Graph {
+    // The first refusal of a grant.
+    #[tactic(auto, unfolding(crate::specs::Rules::refusal_of, crate::specs::Rules::after))]
+    fn check_grant(&self, x: Name, y: Name, z: Name, rights: Rights) -> Result<(), Refusal>
+        requires { IsNamed rights }
+        ensures { result ≡ verdict (refusal_of (graph_of self.now) (Rule.Grant x y z rights)) }
+    {
+        if !self.knows(x) {
+            return Err(Refusal::Unknown(x));
+        }
+        if !self.knows(y) {
+            return Err(Refusal::Unknown(y));
+        }
+        if !self.knows(z) {
+            return Err(Refusal::Unknown(z));
+        }
+        if rights.is_empty() {
+            return Err(Refusal::Empty);
+        }
+        if !self.holds(x, Right::G, y) {
+            return Err(Refusal::NoGrant);
+        }
+        not_held(missing(rights, self.label_between(x, z)))
+    }
+
+    // The first refusal of a remove.
+    #[tactic(auto, unfolding(crate::specs::Rules::refusal_of, crate::specs::Rules::after))]
+    fn check_remove(&self, x: Name, y: Name, rights: Rights) -> Result<(), Refusal>
+        ensures { result ≡ verdict (refusal_of (graph_of self.now) (Rule.Remove x y rights)) }
+    {
+        if !self.knows(x) {
+            return Err(Refusal::Unknown(x));
+        }
+        if !self.knows(y) {
+            return Err(Refusal::Unknown(y));
+        }
+        if rights.is_empty() {
+            return Err(Refusal::Empty);
+        }
+        Ok(())
+    }
+
+    /// Whether the graph accepts a rule. The error is the first reason to refuse it.
+    #[tactic(auto, unfolding(crate::specs::Rules::refusal_of, crate::specs::Rules::after))]
+    pub fn check(&self, rule: &Rule) -> Result<(), Refusal>
+        requires { IsNamed (rights_of rule.now) }
+        ensures { result ≡ verdict (refusal_of (graph_of self.now) rule.now) }
+    {
+        match *rule {
+            Rule::Take { x, y, z, rights } => self.check_take(x, y, z, rights),
+            Rule::Grant { x, y, z, rights } => self.check_grant(x, y, z, rights),
+            Rule::Create { x, n, rights } => self.check_create(x, n, rights),
+            Rule::Remove { x, y, rights } => self.check_remove(x, y, rights),
+        }
+    }
+
+    // Takes rights out of the label of an edge.
+    fn withdraw(&mut self, x: Name, y: Name, rights: Rights)
+        requires named { IsNamed rights }
+        requires source { has_vertex (graph_of self.old) x ≡ true }
+        ensures { graph_of self.new ≡ without_rights (graph_of self.old) x y rights }
+    {
+        narrow(&mut self.rows, x, y, rights);
+    }
+
+    /// Carries out a rule. It fails where `check` does, and where a request for memory is refused.
+    #[tactic(auto, unfolding(crate::specs::Rules::refusal_of, crate::specs::Rules::after))]
+    pub fn apply(&mut self, rule: &Rule) -> Result<(), RuleFault>
+        requires { IsNamed (rights_of rule.now) }
+        ensures applied { Applies (graph_of self.old) rule.now result (graph_of self.new) }
+        ensures kept { OnErr result (self.new ≡ self.old) }
+    {
+        self.check(rule)?;
+        match *rule {
+            Rule::Take { x, z, rights, .. } => self.give(x, z, rights)?,
+            Rule::Grant { y, z, rights, .. } => self.give(y, z, rights)?,
+            Rule::Create { x, n, rights } => self.create(x, n, rights)?,
+            Rule::Remove { x, y, rights } => self.withdraw(x, y, rights),
+        }
+        Ok(())
+    }
+
+    // Why an edge from x to y with no rights is not added.
+    fn fault_of_no_rights(&self, x: Name, y: Name) -> EdgeFault
+        ensures { result ≡ (if is_empty_set (label_between (graph_of self.now) x y)
+            then EdgeFault.Empty else EdgeFault.EdgeThere) }
+    {
+        if self.label_between(x, y).is_empty() {
+            EdgeFault::Empty
+        } else {
+            EdgeFault::EdgeThere
+        }
+    }
+
+    /// Adds an edge between vertices between which there is none, with a label that is not empty.
+    pub fn add_edge(&mut self, x: Name, y: Name, rights: Rights) -> Result<(), EdgeFault>
+        requires { IsNamed rights }
+        ensures added { AddsEdge (graph_of self.old) x y rights result (graph_of self.new) }
+        ensures kept { OnErr result (self.new ≡ self.old) }
+    {
+        if !self.knows(x) {
+            return Err(EdgeFault::Unknown(x));
+        }
+        if !self.knows(y) {
+            return Err(EdgeFault::Unknown(y));
+        }
+        if rights.is_empty() {
+            return Err(self.fault_of_no_rights(x, y));
+        }
+        if self.join(x, y, rights)? {
+            Ok(())
+        } else {
+            Err(EdgeFault::EdgeThere)
+        }
+    }
+
+    /// How many edges there are out of the vertex at a position, 0 past the last.
+    pub fn row_len(&self, position: usize) -> usize
+        ensures { result ≡ length (row_number self.now position) }
+    {
+        match self.rows.get_index(position) {
+            Some((_, row)) => row.len(),
+            None => 0,
+        }
+    }
+
+    /// The target and label of an edge out of the vertex at a position, by its place in the name order of
+    /// the targets.
+    pub fn row_at(&self, position: usize, place: usize) -> Option<(Name, Rights)>
+        ensures { result ≡ slice_get (row_number self.now position) place }
+    {
+        match self.rows.get_index(position) {
+            Some((_, row)) => row.at(place),
+            None => None,
+        }
+    }
+
+    /// A graph with the same vertices at the same positions, and the same edges.
+    pub fn copy(&self) -> Result<Graph, AllocError>
+        ensures { IfOk result (λ copy. copy ≡ self.now) }
+    {
+        Ok(Graph {
+            rows: self.rows.clone()?,
+            alloc: self.alloc,
+        })
+    }
+
+    /// The rights of x over y, or `None` where one of them is no vertex.
+    pub fn label(&self, x: Name, y: Name) -> Option<Rights>
+        ensures { result ≡ label_at (graph_of self.now) x y }
+    {
+        if self.knows(x) && self.knows(y) {
+            Some(self.label_between(x, y))
+        } else {
+            None
+        }
+    }
+
+    /// Carries out rules in turn, up to the first that fails. The error is its index and its fault; the
+    /// rules before it stand.
+    pub fn run(&mut self, rules: &[Rule]) -> Result<(), (usize, RuleFault)>
+        requires { AreNamed rules.now }
+        ensures { Runs (graph_of self.old) rules.now result (graph_of self.new) }
+    {
+        for i in 0..rules.len() {
+            match self.apply(&rules[i]) {
+                Ok(()) => {}
+                Err(fault) => return Err((i, fault)),
+            }
+        }
+        Ok(())
+    }
+}
+
+// Takes rights out of the label of an edge.
+fn narrow(rows: &mut IndexMap<Name, Row>, x: Name, y: Name, rights: Rights)
+    requires named { IsNamed rights }
+    requires known { is_known rows.old.entries x ≡ true }
+    ensures { ChangesRow (λ a b. TakesAway a b y rights) rows.old.entries rows.new.entries x }
+{
+    match rows.get_mut(&x) {
+        Some(row) => row.take(y, rights),
+        None => {},
+    }
+}
+
+// The rights of a set that are not held.
+fn missing(rights: Rights, held: Rights) -> Rights
+    requires named { IsNamed rights }
+    requires held_named { IsNamed held }
+    ensures { result ≡ rights_where (λ right. member rights right && not (member held right)) }
+{
+    Flags::difference(rights, held)
+}
+
+// The refusal for rights that are not held, if there are such.
+fn not_held(missing: Rights) -> Result<(), Refusal>
+    ensures { result ≡ verdict (not_held missing) }
+{
+    if missing.is_empty() {
+        Ok(())
+    } else {
+        Err(Refusal::NotHeld(missing))
+    }
+}

@@ -1,0 +1,185 @@
+//! The edges out of one vertex.
+ghost use Rattle.std.specs.Prelude.{◌≡◌, true, false, Some, None, ◌<◌, ◌≤◌, ◌||◌, ◌&&◌, not, [], IfOk, IfErr, OnOk, OnErr, MatchBool, bytes_eq, nat_eq, length, slice_get};
+ghost use Rattle.std.specs.Map.{lookup};
+ghost use Rattle.tg_graph.specs.Sets.{member, IsNamed};
+ghost use Rattle.tg_graph.specs.Rows.{label_in, IsLabel, IsRow, Puts, is_target, Adds, TakesAway, IsPlaceOf, IsGapFor};
+
+use crate::names::Name;
+use crate::right_sets::Rights;
+use bitflags::Flags;
+use std::alloc::{AllocError, Global};
+use std::marker::Model;
+
+/// The edges out of one vertex, in name order of their targets.
+#[derive(Drop)]
+pub struct Row {
+    edges: Vec<(Name, Rights)>,
+}
+
+impl Model for Row {
+    ghost use Rattle.std.specs.Prelude.{List, ℕ};
+    ghost use Rattle.tg_graph.specs.declared.right_sets.Rights.{Rights};
+
+    ghost Value = { List (List ℕ × Rights) };
+
+    ghost use Rattle.tg_graph.specs.Rows.{IsRow};
+
+    ghost view = { λ r. r.edges.items };
+
+    ghost invariant = { λ r. IsRow r.edges.items };
+}
+
+impl Clone for Row {
+    ghost use Rattle.std.specs.Prelude.{◌≡◌};
+
+    ghost is_clone = { λ row copy. copy ≡ row };
+
+    fn clone(&self) -> Result<Row, AllocError> {
+        Ok(Row {
+            edges: Vec::from_slice(*self.edges.allocator(), self.edges.as_slice())?,
+        })
+    }
+}
+
+impl Row {
+    /// No edges.
+    pub fn new(alloc: Global) -> Row
+        ensures { result ≡ [] }
+    {
+        Row {
+            edges: Vec::new(alloc),
+        }
+    }
+
+    /// How many edges there are.
+    pub fn len(&self) -> usize
+        ensures { result ≡ length self.now }
+    {
+        self.edges.len()
+    }
+
+    /// The edge at a position.
+    pub fn at(&self, position: usize) -> Option<(Name, Rights)>
+        ensures value { result ≡ slice_get self.now position }
+        ensures row { IsRow self.now }
+    {
+        self.edges.get(position).copied()
+    }
+
+    // Where the edge to y is, or where it would go.
+    fn place(&self, y: Name) -> Result<usize, usize>
+        ensures found { IfOk result (IsPlaceOf self.now y) }
+        ensures absent { IfErr result (IsGapFor self.now y) }
+        ensures row { IsRow self.now }
+    {
+        self.edges.binary_search_by_key(&y, |&(target, _)| target)
+    }
+
+    // The label of the edge to y, which is at the place.
+    fn label_at(&self, place: usize, y: Name) -> Rights
+        requires { IsPlaceOf self.now y place }
+        ensures found { lookup (bytes_eq y) self.now ≡ Some result }
+        ensures label { IsLabel result }
+    {
+        self.edges[place].1
+    }
+
+    /// The label of the edge to a vertex.
+    pub fn label(&self, y: Name) -> Rights
+        ensures value { result ≡ label_in self.now y }
+        ensures named { IsNamed result }
+    {
+        match self.place(y) {
+            Ok(place) => self.label_at(place, y),
+            Err(_) => Rights::empty(),
+        }
+    }
+
+    // Writes the label of the edge to y, which is at the place.
+    fn write(&mut self, place: usize, y: Name, label: Rights)
+        requires place { IsPlaceOf self.old y place }
+        requires label { IsLabel label }
+        ensures puts { Puts self.old self.new y (Some label) }
+        ensures row { IsRow self.new }
+    {
+        self.edges[place] = (y, label);
+    }
+
+    // Puts an edge to y in, for which the place is a gap.
+    fn insert(&mut self, place: usize, y: Name, label: Rights) -> Result<(), AllocError>
+        requires place { IsGapFor self.old y place }
+        requires label { IsLabel label }
+        ensures puts { OnOk result (Puts self.old self.new y (Some label)) }
+        ensures err { OnErr result (self.new ≡ self.old) }
+        ensures row { IsRow self.new }
+    {
+        self.edges.insert(place, (y, label))?;
+        Ok(())
+    }
+
+    // Takes the edge to y away, which is at the place.
+    fn cut(&mut self, place: usize, y: Name)
+        requires { IsPlaceOf self.old y place }
+        ensures puts { Puts self.old self.new y None }
+        ensures row { IsRow self.new }
+    {
+        self.edges.remove(place);
+    }
+
+    /// Adds rights to the label of the edge to a vertex.
+    pub fn add(&mut self, y: Name, rights: Rights) -> Result<(), AllocError>
+        requires { IsNamed rights }
+        ensures adds { OnOk result (Adds self.old self.new y rights) }
+        ensures err { OnErr result (self.new ≡ self.old) }
+        ensures row { IsRow self.new }
+    {
+        let _ = &self.edges;
+        if rights.is_empty() {
+            return Ok(());
+        }
+        match self.place(y) {
+            Ok(place) => {
+                let label = Flags::union(self.label_at(place, y), rights);
+                self.write(place, y, label);
+                Ok(())
+            }
+            Err(place) => self.insert(place, y, rights),
+        }
+    }
+
+    /// Adds the edge to a vertex if there is none, and says whether there was none.
+    pub fn add_new(&mut self, y: Name, rights: Rights) -> Result<bool, AllocError>
+        requires { IsLabel rights }
+        ensures said { IfOk result (λ added. added ≡ not (is_target self.old y)) }
+        ensures added { IfOk result
+            (λ added. MatchBool added (Adds self.old self.new y rights) (self.new ≡ self.old)) }
+        ensures absent { OnErr result (is_target self.old y ≡ false) }
+        ensures err { OnErr result (self.new ≡ self.old) }
+        ensures row { IsRow self.new }
+    {
+        match self.place(y) {
+            Ok(_) => Ok(false),
+            Err(place) => {
+                self.insert(place, y, rights)?;
+                Ok(true)
+            }
+        }
+    }
+
+    /// Takes rights out of the label of the edge to a vertex.
+    pub fn take(&mut self, y: Name, rights: Rights)
+        requires { IsNamed rights }
+        ensures taken { TakesAway self.old self.new y rights }
+        ensures row { IsRow self.new }
+    {
+        let Ok(place) = self.place(y) else {
+            return;
+        };
+        let left = Flags::difference(self.label_at(place, y), rights);
+        if left.is_empty() {
+            self.cut(place, y);
+        } else {
+            self.write(place, y, left);
+        }
+    }
+}
