@@ -1,0 +1,14 @@
+pub mod Cuts
+pub mod Steps
+pub mod GrammarLaws
+pub mod RuleLaws
+pub mod GraphLaws
+pub mod ScriptLaws
+pub mod Letters
+pub mod NameOrder
+pub mod RowLines
+pub mod GraphLines
+pub mod PlainWords
+pub mod RightsBack
+pub mod RuleBack
+pub mod GraphBack

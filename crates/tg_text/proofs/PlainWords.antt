@@ -1,0 +1,164 @@
+-- Words written with single spaces, and lines that end in a line feed, are read as they were written.
+use Rattle.std.proofs.Common.{◌≡◌, ℕ, ◌+◌, ◌<◌, ◌≤◌, Bool, true, false, ◌&&◌, not, ◌==◌, nat_lt, List, [], ◌∷◌, ◌++◌, length, None, Some, Result, Ok, Err, refl, sym, ap, ◌∙◌, true≢false, arith, if◌then◌else◌, is_ok}
+use Rattle.std.specs.List.{AllByRecursion, list_all, onto_first}
+use Rattle.std.proofs.lemmas.List.{append_assoc, append-nil}
+use Rattle.std.proofs.lemmas.Bool.Decides.{nat_tests}
+use Rattle.tg_graph.specs.declared.right_sets.Right.{Right}
+use Rattle.tg_graph.specs.declared.right_sets.Right.TheVariants.{T, G, R, W, E}
+use Rattle.tg_graph.specs.declared.right_sets.Rights.{Rights}
+use Rattle.tg_graph.specs.Graphs.{Name}
+use Rattle.tg_graph.specs.Names.{IsName, first_bad, fits_at, name_of, checked}
+use Rattle.tg_graph.specs.declared.names.NameFault.TheVariants.{Empty, TooLong}
+use Rattle.tg_graph.specs.Sets.{member}
+use Rattle.tg_graph.specs.Letters.{letters_among, letters_of, letter_of, all_rights}
+use Rattle.tg_text.specs.declared.faults.TextKind.{TextKind}
+use Rattle.tg_text.specs.declared.faults.TextKind.TheVariants.{BadName, LineTooLong}
+use Rattle.tg_text.specs.Lines.{lines_of, words_of, is_blank, begins_with_word, is_skipped}
+use Rattle.tg_text.specs.Reading.{after_line}
+use Rattle.tg_text.specs.Words.{Word, name_at}
+use Rattle.tg_text.specs.Spelling.{spaced, or_dash, rights_text}
+use Rattle.tg_text.specs.Canonical.{line_of}
+use Rattle.tg_text.proofs.Letters.{length-letters}
+
+-- ---- words without blanks and line feeds
+abbrev is_plain : ℕ → Bool
+is_plain b = not (is_blank b) && not (b == 10)
+
+abbrev Plain : List ℕ → Type 0
+Plain = AllByRecursion (λ b. is_plain b ≡ true)
+
+pub record IsPlainWord (word : Word) : Type 0 where
+  pub some : 0 < length word
+  pub plain : AllByRecursion (λ b. is_plain b ≡ true) word
+
+and_left : (x y : Bool) → x && y ≡ true → x ≡ true
+and_left true y e = refl
+and_left false y e = absurd (true≢false (sym e))
+
+and_right : (x y : Bool) → x && y ≡ true → y ≡ true
+and_right true y e = e
+and_right false y e = absurd (true≢false (sym e))
+
+not_true : (b : Bool) → not b ≡ true → b ≡ false
+not_true true e = absurd (true≢false (sym e))
+not_true false e = refl
+
+plain_not_blank : (b : ℕ) → is_plain b ≡ true → is_blank b ≡ false
+plain_not_blank b e = not_true (is_blank b) (and_left (not (is_blank b)) (not (b == 10)) e)
+
+plain_not_feed : (b : ℕ) → is_plain b ≡ true → (b == 10) ≡ false
+plain_not_feed b e = not_true (b == 10) (and_right (not (is_blank b)) (not (b == 10)) e)
+
+plain_from_test : (bs : List ℕ) → list_all is_plain bs ≡ true → Plain bs
+plain_from_test [] e = tt
+plain_from_test (b ∷ bs) e = (and_left (is_plain b) (list_all is_plain bs) e, plain_from_test bs (and_right (is_plain b) (list_all is_plain bs) e))
+
+-- a fixed word, by computation
+pub word_from_test : (word : Word) → list_all is_plain word ≡ true → nat_lt 0 (length word) ≡ true → IsPlainWord word
+word_from_test word e l = record { some = grind (arith, nat_tests); plain = plain_from_test word e }
+
+-- ---- the words of a line
+word-read : (word rest : List ℕ) → 0 < length word → Plain word → begins_with_word rest ≡ false → words_of (word ++ rest) ≡ word ∷ words_of rest
+word-read [] rest l p e = absurd (omega arith)
+word-read (b ∷ []) rest l p e =
+    ap (λ x. if x then words_of rest else (if begins_with_word rest then onto_first b (words_of rest) else (b ∷ []) ∷ words_of rest)) (plain_not_blank b p.0)
+    ∙ ap (λ x. if x then onto_first b (words_of rest) else (b ∷ []) ∷ words_of rest) e
+word-read (b ∷ c ∷ cs) rest l p e =
+    let more = c ∷ (cs ++ rest) in
+    ap (λ x. if x then words_of more else (if begins_with_word more then onto_first b (words_of more) else (b ∷ []) ∷ words_of more)) (plain_not_blank b p.0)
+    ∙ ap (λ x. if not x then onto_first b (words_of more) else (b ∷ []) ∷ words_of more) (plain_not_blank c p.1.0)
+    ∙ ap (onto_first b) (word-read (c ∷ cs) rest (omega arith) p.1 e)
+
+pub words-spaced : (words : List Word) → AllByRecursion IsPlainWord words → words_of (spaced words) ≡ words
+words-spaced [] a = refl
+words-spaced (word ∷ []) a = ap words_of (sym (append-nil word)) ∙ word-read word [] a.0.some a.0.plain refl
+words-spaced (word ∷ next ∷ words) a =
+    word-read word (32 ∷ spaced (next ∷ words)) a.0.some a.0.plain refl ∙ ap (λ ws. word ∷ ws) (words-spaced (next ∷ words) a.1)
+
+-- ---- the lines of a text
+abbrev NoFeed : List ℕ → Type 0
+NoFeed = AllByRecursion (λ b. (b == 10) ≡ false)
+
+line-read : (line rest : List ℕ) → NoFeed line → lines_of (line ++ (10 ∷ rest)) ≡ line ∷ lines_of rest
+line-read [] rest n = refl
+line-read (b ∷ bs) rest n =
+    ap (λ x. if x then [] ∷ lines_of (bs ++ (10 ∷ rest)) else onto_first b (lines_of (bs ++ (10 ∷ rest)))) n.0 ∙ ap (onto_first b) (line-read bs rest n.1)
+
+no_feed-append : (xs ys : List ℕ) → Plain xs → NoFeed ys → NoFeed (xs ++ ys)
+no_feed-append [] ys p n = n
+no_feed-append (x ∷ xs) ys p n = (plain_not_feed x p.0, no_feed-append xs ys p.1 n)
+
+no_feed-plain : (xs : List ℕ) → Plain xs → NoFeed xs
+no_feed-plain [] p = tt
+no_feed-plain (x ∷ xs) p = (plain_not_feed x p.0, no_feed-plain xs p.1)
+
+no_feed-spaced : (words : List Word) → AllByRecursion IsPlainWord words → NoFeed (spaced words)
+no_feed-spaced [] a = tt
+no_feed-spaced (word ∷ []) a = no_feed-plain word a.0.plain
+no_feed-spaced (word ∷ next ∷ words) a = no_feed-append word (32 ∷ spaced (next ∷ words)) a.0.plain (refl, no_feed-spaced (next ∷ words) a.1)
+
+pub lines-spaced : (words : List Word) (rest : List ℕ) → AllByRecursion IsPlainWord words → lines_of (line_of words ++ rest) ≡ spaced words ∷ lines_of rest
+lines-spaced words rest a = ap lines_of (append_assoc (spaced words) (10 ∷ []) rest) ∙ line-read (spaced words) rest (no_feed-spaced words a)
+
+-- ---- names and letters are plain words
+fits-plain : (k b : ℕ) → fits_at k b ≡ true → is_plain b ≡ true
+fits-plain k b e = grind (arith, nat_tests)
+
+name-plain : (k : ℕ) (bs : List ℕ) → first_bad k bs ≡ None → Plain bs
+name-plain k [] e = tt
+name-plain k (b ∷ bs) e = by (fits_at k b) refl e (name-plain (k + 1) bs)
+  where
+    by : (x : Bool) → fits_at k b ≡ x → (if x then first_bad (k + 1) bs else Some k) ≡ None → (first_bad (k + 1) bs ≡ None → Plain bs) → Plain (b ∷ bs)
+    by true f h rec = (fits-plain k b f, rec h)
+    by false f h rec = cc
+
+pub name_word : (v : Name) → IsName v → IsPlainWord v
+name_word v n = record { some = n.some; plain = name-plain 0 v n.fit }
+
+letter-plain : (right : Right) → is_plain (letter_of right) ≡ true
+letter-plain T = refl
+letter-plain G = refl
+letter-plain R = refl
+letter-plain W = refl
+letter-plain E = refl
+
+letters-plain : (s : Rights) (rights : List Right) → Plain (letters_among s rights)
+letters-plain s [] = tt
+letters-plain s (right ∷ rights) =
+    elim (member s right) as (λ b. Plain (if b then letter_of right ∷ letters_among s rights else letters_among s rights)) [
+      | true ↦ (letter-plain right, letters-plain s rights)
+      | false ↦ letters-plain s rights
+    ]
+
+dash_word : (bs : List ℕ) → Plain bs → IsPlainWord (or_dash bs)
+dash_word [] p = record { some = omega arith; plain = (refl, tt) }
+dash_word (b ∷ bs) p = record { some = omega arith; plain = p }
+
+pub rights_word : (s : Rights) → IsPlainWord (rights_text s)
+rights_word s = dash_word (letters_of s) (letters-plain s all_rights)
+
+length-dash : (bs : List ℕ) → length bs ≤ 5 → length (or_dash bs) ≤ 5
+length-dash [] h = omega arith
+length-dash (b ∷ bs) h = h
+
+pub length-rights : (s : Rights) → length (rights_text s) ≤ 5
+length-rights s = length-dash (letters_of s) (length-letters s all_rights)
+
+-- a name is read as it stands
+pub name_at-is : (v : Name) → IsName v → name_at v ≡ Ok v
+name_at-is v n = ap (λ r. if is_ok r then Ok v else Err BadName) (found v n.some n.within n.fit)
+  where
+    found : (v : Name) → 0 < length v → length v ≤ 16 → first_bad 0 v ≡ None → name_of v ≡ Ok v
+    found v l h e =
+        let some : (length v == 0) ≡ false = grind (arith, nat_tests) in
+        let within : nat_lt 16 (length v) ≡ false = grind (arith, nat_tests) in
+        ap (λ b. if b then Err Empty else (if nat_lt 16 (length v) then Err TooLong else checked v (first_bad 0 v))) some
+        ∙ ap (λ b. if b then Err TooLong else checked v (first_bad 0 v)) within ∙ ap (checked v) e
+
+-- a line that is not too long and not skipped, by its words
+pub line-is : {A : Type 0} (item : A → List Word → Result A TextKind) (a : A) (words : List Word) → AllByRecursion IsPlainWord words → length (spaced words) ≤ 256 → is_skipped words ≡ false
+    → after_line item a (spaced words) ≡ item a words
+line-is item a words p l s =
+    let short : nat_lt 256 (length (spaced words)) ≡ false = grind (arith, nat_tests) in
+    ap (λ b. if b then Err LineTooLong else (if is_skipped (words_of (spaced words)) then Ok a else item a (words_of (spaced words)))) short
+    ∙ ap (λ ws. if is_skipped ws then Ok a else item a ws) (words-spaced words p) ∙ ap (λ b. if b then Ok a else item a words) s

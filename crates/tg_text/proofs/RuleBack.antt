@@ -1,0 +1,72 @@
+-- The line of a rule is read as the rule.
+use Rattle.std.proofs.Common.{◌≡◌, ◌+◌, ◌≤◌, false, nat_lt, if◌then◌else◌, List, [], ◌∷◌, length, codes, Ok, Err, refl, ap, ◌∙◌, arith}
+use Rattle.std.specs.List.{AllByRecursion}
+use Rattle.std.proofs.lemmas.Bool.Decides.{nat_tests}
+use Rattle.std.proofs.lemmas.List.{length-append}
+use Rattle.tg_graph.specs.declared.right_sets.Rights.{Rights}
+use Rattle.tg_graph.specs.declared.rules.Rule.{Rule}
+use Rattle.tg_graph.specs.declared.rules.Rule.TheVariants.{Take, Grant, Create, Remove}
+use Rattle.tg_graph.specs.Graphs.{Name}
+use Rattle.tg_graph.specs.Names.{IsName}
+use Rattle.tg_graph.specs.Sets.{IsNamed}
+use Rattle.tg_graph.specs.RuleWords.{IsRule}
+use Rattle.tg_text.specs.declared.faults.TextKind.TheVariants.{BadRights, LineTooLong}
+use Rattle.tg_text.specs.Lines.{words_of}
+use Rattle.tg_text.specs.Reading.{◌>>=◌}
+use Rattle.tg_text.specs.Words.{Word, name_at, rights_at, value_or}
+use Rattle.tg_text.specs.RuleText.{two_names, three_names, rule_of_words, rule_of_line}
+use Rattle.tg_text.specs.Spelling.{rule_text, rule_words, rights_text, spaced}
+use Rattle.tg_text.proofs.PlainWords.{IsPlainWord, word_from_test, name_word, rights_word, words-spaced, name_at-is, length-rights}
+use Rattle.tg_text.proofs.RightsBack.{rights-back}
+
+pub rights_at-is : (s : Rights) → IsNamed s → rights_at (rights_text s) ≡ Ok s
+rights_at-is s n = ap (value_or BadRights) (rights-back s n)
+
+two_names-is : (x y : Name) (s : Rights) → IsName x → IsName y → IsNamed s → two_names (x ∷ y ∷ rights_text s ∷ []) ≡ Ok (x, y, s)
+unfolding two_names
+two_names-is x y s p q n =
+    ap (λ r. r >>= λ x. name_at y >>= λ y. rights_at (rights_text s) >>= λ s. Ok (x, y, s)) (name_at-is x p)
+    ∙ ap (λ r. r >>= λ y. rights_at (rights_text s) >>= λ s. Ok (x, y, s)) (name_at-is y q)
+    ∙ ap (λ r. r >>= λ s. Ok (x, y, s)) (rights_at-is s n)
+
+three_names-is : (x y z : Name) (s : Rights) → IsName x → IsName y → IsName z → IsNamed s → three_names (x ∷ y ∷ z ∷ rights_text s ∷ []) ≡ Ok (x, y, z, s)
+unfolding three_names
+three_names-is x y z s p q r n =
+    ap (λ r. r >>= λ x. name_at y >>= λ y. name_at z >>= λ z. rights_at (rights_text s) >>= λ s. Ok (x, y, z, s)) (name_at-is x p)
+    ∙ ap (λ r. r >>= λ y. name_at z >>= λ z. rights_at (rights_text s) >>= λ s. Ok (x, y, z, s)) (name_at-is y q)
+    ∙ ap (λ r. r >>= λ z. rights_at (rights_text s) >>= λ s. Ok (x, y, z, s)) (name_at-is z r)
+    ∙ ap (λ r. r >>= λ s. Ok (x, y, z, s)) (rights_at-is s n)
+
+words-back : (rule : Rule) → IsRule rule → rule_of_words (rule_words rule) ≡ Ok rule
+unfolding rule_of_words
+words-back (Take x y z s) (p, q, r, n) = ap (λ w. w >>= λ a. Ok (Take a.0 a.1 a.2 a.3)) (three_names-is x y z s p q r n)
+words-back (Grant x y z s) (p, q, r, n) = ap (λ w. w >>= λ a. Ok (Grant a.0 a.1 a.2 a.3)) (three_names-is x y z s p q r n)
+words-back (Create x m s) (p, q, n) = ap (λ w. w >>= λ a. Ok (Create a.0 a.1 a.2)) (two_names-is x m s p q n)
+words-back (Remove x y s) (p, q, n) = ap (λ w. w >>= λ a. Ok (Remove a.0 a.1 a.2)) (two_names-is x y s p q n)
+
+plain-rule : (rule : Rule) → IsRule rule → AllByRecursion IsPlainWord (rule_words rule)
+plain-rule (Take x y z s) (p, q, r, n) = (word_from_test (codes "take") refl refl, (name_word x p, (name_word y q, (name_word z r, (rights_word s, tt)))))
+plain-rule (Grant x y z s) (p, q, r, n) = (word_from_test (codes "grant") refl refl, (name_word x p, (name_word y q, (name_word z r, (rights_word s, tt)))))
+plain-rule (Create x m s) (p, q, n) = (word_from_test (codes "create") refl refl, (name_word x p, (name_word m q, (rights_word s, tt))))
+plain-rule (Remove x y s) (p, q, n) = (word_from_test (codes "remove") refl refl, (name_word x p, (name_word y q, (rights_word s, tt))))
+
+pub length-two : (word x : Word) (s : Rights) → length (spaced (word ∷ x ∷ rights_text s ∷ [])) ≤ length word + length x + 7
+length-two word x s = omega (arith, length-append word (32 ∷ spaced (x ∷ rights_text s ∷ [])), length-append x (32 ∷ rights_text s), length-rights s)
+
+pub length-more : (word : Word) (next : Word) (words : List Word) → length (spaced (word ∷ next ∷ words)) ≡ length word + 1 + length (spaced (next ∷ words))
+length-more word next words = omega (arith, length-append word (32 ∷ spaced (next ∷ words)))
+
+short-rule : (rule : Rule) → IsRule rule → length (rule_text rule) ≤ 256
+short-rule (Take x y z s) (p, q, r, n) =
+    omega (arith, length-more (codes "take") x (y ∷ z ∷ rights_text s ∷ []), length-more x y (z ∷ rights_text s ∷ []), length-two y z s, p.within, q.within, r.within)
+short-rule (Grant x y z s) (p, q, r, n) =
+    omega (arith, length-more (codes "grant") x (y ∷ z ∷ rights_text s ∷ []), length-more x y (z ∷ rights_text s ∷ []), length-two y z s, p.within, q.within, r.within)
+short-rule (Create x m s) (p, q, n) = omega (arith, length-more (codes "create") x (m ∷ rights_text s ∷ []), length-two x m s, p.within, q.within)
+short-rule (Remove x y s) (p, q, n) = omega (arith, length-more (codes "remove") x (y ∷ rights_text s ∷ []), length-two x y s, p.within, q.within)
+
+pub rule-back : (rule : Rule) → IsRule rule → rule_of_line (rule_text rule) ≡ Ok rule
+rule-back rule p =
+    let short = short-rule rule p in
+    let test : nat_lt 256 (length (rule_text rule)) ≡ false = grind (arith, nat_tests) in
+    ap (λ b. if b then Err LineTooLong else rule_of_words (words_of (rule_text rule))) test
+    ∙ ap rule_of_words (words-spaced (rule_words rule) (plain-rule rule p)) ∙ words-back rule p

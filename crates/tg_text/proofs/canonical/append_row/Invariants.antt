@@ -1,0 +1,9 @@
+use Rattle.std.proofs.Common.{◌≡◌, ◌++◌, take}
+use Rattle.std.specs.List.{flat_map}
+use Rattle.tg_graph.specs.Rows.{row_number}
+use Rattle.tg_text.proofs.RowLines.{edge_of}
+use Rattle.tg_text.proofs.canonical.append_row.Given as goal
+
+abbrev pub invariant-loop-place : goal.invariant-loop-place
+invariant-loop-place l =
+    l.text.items ≡ l.initial.text.items ++ flat_map (edge_of l.source) (take l.place (row_number l.graph l.position))

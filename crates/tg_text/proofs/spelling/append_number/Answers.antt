@@ -1,0 +1,6 @@
+use Rattle.std.proofs.Common.{arith}
+use Rattle.std.proofs.lemmas.Fmt.{length-decimal-le}
+use Rattle.tg_text.proofs.spelling.append_number.Goals as goal
+
+pub put_number-requires : goal.put_number-requires
+put_number-requires c = omega (arith, length-decimal-le 20 c.args.number (omega arith) (omega arith) (omega arith), c.in_ok-reserve.ensures.ok)

@@ -1,0 +1,40 @@
+-- The canonical text of a graph.
+use Rattle.std.specs.Prelude.{ℕ, List, [], ◌∷◌, ◌++◌, codes, if◌then◌else◌}
+use Rattle.std.specs.List.{flat_map}
+use Rattle.std.specs.declared.cmp.Ordering.{Ordering}
+use Rattle.std.specs.Ordering.{nat_cmp}
+use Rattle.std.specs.BTreeSet.{insert_key}
+use Rattle.std.specs.Cmp.Lexicographic.{slice_cmp}
+use Rattle.tg_graph.specs.declared.right_sets.Rights.{Rights}
+use Rattle.tg_graph.specs.Sets.{is_empty_set}
+use Rattle.tg_graph.specs.Graphs.{Name, ProtectionGraph}
+use Rattle.tg_graph.specs.Additions.{label_between}
+use Rattle.tg_text.specs.Spelling.{spaced, rights_text}
+
+-- the order of names: by their bytes, a prefix first
+abbrev pub name_cmp : Name → Name → Ordering
+name_cmp = slice_cmp nat_cmp
+
+-- each of the names once, in name order
+abbrev pub in_name_order : List Name → List Name
+in_name_order [] = []
+in_name_order (v ∷ vs) = insert_key name_cmp (in_name_order vs) v
+
+-- the words with single spaces, and a line feed
+abbrev pub line_of : List (List ℕ) → List ℕ
+line_of words = spaced words ++ 10 ∷ []
+
+abbrev pub vertex_line : Name → List ℕ
+vertex_line v = line_of (codes "vertex" ∷ v ∷ [])
+
+-- the line of the edge from u to v; none for an empty label
+abbrev pub edge_line : Name → Name → Rights → List ℕ
+edge_line u v label = if is_empty_set label then [] else line_of (codes "edge" ∷ u ∷ v ∷ rights_text label ∷ [])
+
+-- the lines of the edges from u to those of the vertices to which there is one
+abbrev pub row_text : ProtectionGraph → List Name → Name → List ℕ
+row_text g vs u = flat_map (λ v. edge_line u v (label_between g u v)) vs
+
+-- the vertices in name order, then the edges in order of source, then target
+abbrev pub canonical_text : ProtectionGraph → List ℕ
+canonical_text g = let vs = in_name_order g.vertices in flat_map vertex_line vs ++ flat_map (row_text g vs) vs

@@ -1,0 +1,15 @@
+pub mod Lines
+pub mod Reading
+pub mod Words
+pub mod GraphText
+pub mod RuleText
+pub mod ScriptText
+pub mod TextExamples
+pub mod Grammar
+pub mod GraphGrammar
+pub mod RuleGrammar
+pub mod ScriptGrammar
+pub mod Spelling
+pub mod Canonical
+pub mod CanonicalLaws
+pub mod RoundTrips

@@ -1,0 +1,84 @@
+//! What can be wrong with a text.
+use std::alloc::AllocFailed;
+
+/// What is wrong with a line, in the order in which it is looked for.
+#[derive(Clone, Copy, PartialEq, Eq, Debug)]
+pub enum TextKind {
+    /// The line has over 256 bytes.
+    LineTooLong,
+    /// The word that says what the line is, is missing or none of those allowed there.
+    BadWord,
+    /// The line has not the number of words of its form.
+    WordCount,
+    /// A word for a number is no number, or out of its range.
+    BadNumber,
+    /// A word for a name is no name.
+    BadName,
+    /// A word for rights writes none; for an edge also the empty set.
+    BadRights,
+    /// The vertex was named by an earlier line.
+    DuplicateVertex,
+    /// 1,024 vertices are there already.
+    TooManyVertices,
+    /// A source or target is named by no earlier line.
+    UnknownVertex,
+    /// An earlier line has the same source and target.
+    DuplicateEdge,
+    /// 65,536 rules or events are there already.
+    TooMany,
+    /// The text ends before both header lines.
+    NoHeader,
+}
+
+/// Why a text was not read.
+#[derive(Clone, Copy, PartialEq, Eq, Debug)]
+pub enum TextFault {
+    /// The first faulty line, counted from 1, and the first thing wrong with it.
+    At { line: usize, kind: TextKind },
+    /// There was no memory. A later line may be faulty.
+    Memory,
+}
+
+/// Why a line was not read.
+#[derive(Clone, Copy, PartialEq, Eq, Debug)]
+pub(crate) enum LineFault {
+    Kind(TextKind),
+    Memory,
+}
+
+impl LineFault {
+    ghost use Rattle.std.specs.Prelude.{◌≡◌};
+    ghost use Rattle.tg_text.specs.Reading.{fault_on_line};
+
+    /// The fault of the text whose line this is.
+    pub(crate) fn on_line(self, line: usize) -> TextFault
+        ensures { result ≡ fault_on_line self line }
+    {
+        match self {
+            LineFault::Kind(kind) => TextFault::At { line, kind },
+            LineFault::Memory => TextFault::Memory,
+        }
+    }
+}
+
+impl From<TextKind> for LineFault {
+    ghost use Rattle.std.specs.Prelude.{◌≡◌};
+    ghost use Rattle.tg_text.specs.declared.faults.LineFault.TheVariants.{Kind};
+
+    ghost from_gives = { λ kind fault. fault ≡ Kind kind };
+
+    fn from(kind: TextKind) -> LineFault {
+        LineFault::Kind(kind)
+    }
+}
+
+impl<T: Drop> From<AllocFailed<T>> for LineFault {
+    ghost use Rattle.std.specs.Prelude.{◌≡◌};
+    ghost use Rattle.tg_text.specs.declared.faults.LineFault.TheVariants.{Memory};
+
+    ghost from_gives = { λ _ fault. fault ≡ Memory };
+
+    fn from(_error: AllocFailed<T>) -> LineFault {
+        LineFault::Memory
+    }
+}

@@ -1,0 +1,24 @@
+//! The texts of graphs, rules, scripts and replies.
+#![tactic(auto)]
+
+pub mod canonical;
+pub mod faults;
+pub mod grammars;
+pub mod graph_text;
+pub mod laws;
+mod lines;
+pub mod rule_text;
+pub mod script_text;
+pub mod spelling;
+#[cfg(test)]
+mod tests;
+mod words;
+#[cfg(test)]
+mod writing_tests;
+
+pub use canonical::write_graph;
+pub use faults::{TextFault, TextKind};
+pub use graph_text::read_graph;
+pub use rule_text::{RuleLine, read_rule, read_rules};
+pub use script_text::{Script, ScriptLine, read_script};
+pub use spelling::{append_number, append_reply, append_rule, write_reply, write_rule};

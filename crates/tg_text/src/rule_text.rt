@@ -1,0 +1,143 @@
+//! The text of rules.
+ghost use Rattle.std.specs.Prelude.{◌≡◌, IfOk, OnOk};
+ghost use Rattle.tg_graph.specs.Sets.{IsNamed};
+ghost use Rattle.tg_graph.specs.Rules.{rights_of};
+ghost use Rattle.tg_text.specs.Lines.{words_of};
+ghost use Rattle.tg_text.specs.Reading.{Makes, Reads, after_line};
+ghost use Rattle.tg_text.specs.RuleText.{two_names, three_names, rule_of_words, rule_of_line, rule_item, rules_text, AreNamedLines};
+
+use crate::faults::{LineFault, TextFault, TextKind};
+use crate::lines::{MAX_LINE, content, cut_line, cut_word};
+use crate::words::{four_words, name_at, rights_at, three_words};
+use std::alloc::Global;
+use tg_graph::{Name, Rights, Rule};
+
+// The most rules of a text.
+const MAX_RULES: usize = 65536;
+
+/// A rule of a text.
+#[derive(Clone, Copy, PartialEq, Eq, Debug)]
+pub struct RuleLine {
+    /// The number of its line, counted from 1.
+    pub line: usize,
+    /// The rule.
+    pub rule: Rule,
+}
+
+#[tactic(auto, unfolding(crate::specs::RuleText::two_names))]
+fn two_names(bytes: &[u8]) -> Result<(Name, Name, Rights), TextKind>
+    ensures value { result ≡ two_names (words_of bytes.now) }
+    ensures named { IfOk result (λ a. IsNamed a.2) }
+{
+    let (first, second, letters) = three_words(bytes)?;
+    let x = name_at(first)?;
+    let y = name_at(second)?;
+    let rights = rights_at(letters)?;
+    Ok((x, y, rights))
+}
+
+#[tactic(auto, unfolding(crate::specs::RuleText::three_names))]
+fn three_names(bytes: &[u8]) -> Result<(Name, Name, Name, Rights), TextKind>
+    ensures value { result ≡ three_names (words_of bytes.now) }
+    ensures named { IfOk result (λ a. IsNamed a.3) }
+{
+    let (first, second, third, letters) = four_words(bytes)?;
+    let x = name_at(first)?;
+    let y = name_at(second)?;
+    let z = name_at(third)?;
+    let rights = rights_at(letters)?;
+    Ok((x, y, z, rights))
+}
+
+// The rule that words write.
+#[tactic(auto, unfolding(crate::specs::RuleText::rule_of_words))]
+pub(crate) fn rule_of_words(bytes: &[u8]) -> Result<Rule, TextKind>
+    ensures value { result ≡ rule_of_words (words_of bytes.now) }
+    ensures named { IfOk result (λ rule. IsNamed (rights_of rule)) }
+{
+    let Some((word, rest)) = cut_word(bytes) else {
+        return Err(TextKind::BadWord);
+    };
+    if word == b"take".as_slice() {
+        let (x, y, z, rights) = three_names(rest)?;
+        return Ok(Rule::Take { x, y, z, rights });
+    }
+    if word == b"grant".as_slice() {
+        let (x, y, z, rights) = three_names(rest)?;
+        return Ok(Rule::Grant { x, y, z, rights });
+    }
+    if word == b"create".as_slice() {
+        let (x, n, rights) = two_names(rest)?;
+        return Ok(Rule::Create { x, n, rights });
+    }
+    if word == b"remove".as_slice() {
+        let (x, y, rights) = two_names(rest)?;
+        return Ok(Rule::Remove { x, y, rights });
+    }
+    Err(TextKind::BadWord)
+}
+
+/// The rule that a line without its line feed writes, or the first thing wrong with the line:
+/// `LineTooLong` over 256 bytes, `BadWord` where the first word names no rule, `WordCount`, `BadName`,
+/// `BadRights`.
+///
+/// A line that a text would skip is a `BadWord`. No memory is taken.
+pub fn read_rule(line: &[u8]) -> Result<Rule, TextKind>
+    ensures value { result ≡ rule_of_line line.now }
+    ensures named { IfOk result (λ rule. IsNamed (rights_of rule)) }
+{
+    if line.len() > MAX_LINE {
+        return Err(TextKind::LineTooLong);
+    }
+    rule_of_words(line)
+}
+
+// Adds the rule of a line that is not skipped.
+#[tactic(auto, unfolding(crate::specs::RuleText::rule_line, crate::specs::RuleText::rule_item))]
+fn add_rule(rules: &mut Vec<RuleLine>, line: usize, words: &[u8]) -> Result<(), LineFault>
+    requires { AreNamedLines rules.old.items }
+    ensures made { Makes (rule_item line rules.old.items (words_of words.now)) result rules.new.items }
+    ensures named { OnOk result (AreNamedLines rules.new.items) }
+{
+    let rule = rule_of_words(words)?;
+    if rules.len() >= MAX_RULES {
+        return Err(LineFault::Kind(TextKind::TooMany));
+    }
+    rules.push(RuleLine { line, rule })?;
+    Ok(())
+}
+
+fn add_line(rules: &mut Vec<RuleLine>, line: usize, bytes: &[u8]) -> Result<(), LineFault>
+    requires { AreNamedLines rules.old.items }
+    ensures made { Makes (after_line (rule_item line) rules.old.items bytes.now) result rules.new.items }
+    ensures named { OnOk result (AreNamedLines rules.new.items) }
+{
+    let Some(words) = content(bytes)? else {
+        return Ok(());
+    };
+    add_rule(rules, line, words)?;
+    Ok(())
+}
+
+#[tactic(auto, unfolding(crate::specs::RuleText::rules_text))]
+/// The rules of a text, with their lines.
+///
+/// `At` names the first faulty line. Its kind is one of those of `read_rule`, or `TooMany` where there
+/// are 65,536 rules already. `Memory` is answered where a growth was refused, whatever stands further on.
+pub fn read_rules(alloc: Global, text: &[u8]) -> Result<Vec<RuleLine>, TextFault>
+    ensures value { Reads (λ rules. rules.items) result (rules_text text.now) }
+    ensures named { IfOk result (λ rules. AreNamedLines rules.items) }
+{
+    let mut rules = Vec::new(alloc);
+    let mut rest = text;
+    let mut line = 0;
+    while !rest.is_empty() {
+        let (bytes, after) = cut_line(rest);
+        line += 1;
+        if let Err(fault) = add_line(&mut rules, line, bytes) {
+            return Err(fault.on_line(line));
+        }
+        rest = after;
+    }
+    Ok(rules)
+}

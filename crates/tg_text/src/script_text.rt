@@ -1,0 +1,268 @@
+//! The text of a script.
+ghost use Rattle.std.specs.Prelude.{◌≡◌, Ok, IfOk, OnOk};
+ghost use Rattle.tg_text.specs.Lines.{words_of};
+ghost use Rattle.tg_text.specs.Words.{Word};
+ghost use Rattle.tg_text.specs.Reading.{Makes, Reads, after_line, with_item};
+ghost use Rattle.tg_text.specs.ScriptText.{right_and_names, act_alone, act_of_words, seated, event_of_words, event_item, header_number, script_item, script_text, script_of, IsNamedAct, AreNamedEvents};
+
+use crate::faults::{LineFault, TextFault, TextKind};
+use crate::lines::{content, cut_line, cut_word};
+use crate::rule_text::rule_of_words;
+use crate::words::{name_at, no_words, number_up_to, one_word, right_at, three_words};
+use std::alloc::Global;
+use tg_graph::{Act, Name, Right, Step};
+
+// The most events of a text, and the greatest numbers of its header.
+const MAX_EVENTS: usize = 65536;
+
+const MAX_SEATS: u32 = 64;
+
+const MAX_CELLS: u32 = 4096;
+
+/// An event of a script: an act of a seat.
+#[derive(Clone, Copy, PartialEq, Eq, Debug)]
+pub struct ScriptLine {
+    /// The number of its line, counted from 1.
+    pub line: usize,
+    /// The number of the seat, counted from 1.
+    pub seat: u32,
+    /// What the seat does.
+    pub act: Act,
+}
+
+/// A script: its header, and the events in turn.
+#[derive(Debug, Drop)]
+pub struct Script {
+    /// How many seats there are, 1 to 64.
+    pub seats: u32,
+    /// How many cells there are, 1 to 4,096.
+    pub cells: usize,
+    /// The events.
+    pub lines: Vec<ScriptLine>,
+}
+
+/// How much of a script's header has come.
+#[derive(Clone, Copy, PartialEq, Eq, Debug)]
+pub(crate) enum Header {
+    Nothing,
+    Seats(u32),
+    Whole { seats: u32, cells: u32 },
+}
+
+#[tactic(auto, unfolding(crate::specs::ScriptText::right_and_names))]
+fn right_and_names(bytes: &[u8]) -> Result<(Right, Name, Name), TextKind>
+    ensures { result ≡ right_and_names (words_of bytes.now) }
+{
+    let (letter, first, second) = three_words(bytes)?;
+    let x = name_at(first)?;
+    let y = name_at(second)?;
+    let right = right_at(letter)?;
+    Ok((right, x, y))
+}
+
+// The act, if no word is left.
+fn act_alone(act: Act, bytes: &[u8]) -> Result<Act, TextKind>
+    ensures { result ≡ act_alone act (words_of bytes.now) }
+{
+    no_words(bytes)?;
+    Ok(act)
+}
+
+// The act that words after the number of a seat write.
+#[tactic(auto, unfolding(crate::specs::ScriptText::act_of_words))]
+fn act_of_words(bytes: &[u8]) -> Result<Act, TextKind>
+    ensures value { result ≡ act_of_words (words_of bytes.now) }
+    ensures named { IfOk result IsNamedAct }
+{
+    let Some((word, rest)) = cut_word(bytes) else {
+        return Err(TextKind::BadWord);
+    };
+    if word == b"begin".as_slice() {
+        return act_alone(Act::Begin, rest);
+    }
+    if word == b"commit".as_slice() {
+        return act_alone(Act::Commit, rest);
+    }
+    if word == b"abort".as_slice() {
+        return act_alone(Act::Abort, rest);
+    }
+    if word == b"holds".as_slice() {
+        let (right, x, y) = right_and_names(rest)?;
+        return Ok(Act::Stage(Step::Holds { right, x, y }));
+    }
+    if word == b"share".as_slice() {
+        let (right, x, y) = right_and_names(rest)?;
+        return Ok(Act::Stage(Step::Share { right, x, y }));
+    }
+    let rule = rule_of_words(bytes)?;
+    Ok(Act::Stage(Step::Do(rule)))
+}
+
+// The event, where what is wrong with the form of the act comes first.
+fn seated(
+    line: usize,
+    seat: Result<u32, TextKind>,
+    act: Result<Act, TextKind>,
+) -> Result<ScriptLine, TextKind>
+    ensures { result ≡ seated line seat act }
+{
+    match act {
+        Err(TextKind::BadWord) => Err(TextKind::BadWord),
+        Err(TextKind::WordCount) => Err(TextKind::WordCount),
+        _ => {
+            let seat = seat?;
+            let act = act?;
+            Ok(ScriptLine { line, seat, act })
+        },
+    }
+}
+
+#[tactic(auto, unfolding(crate::specs::ScriptText::event_of_words))]
+fn event_of_words(line: usize, seats: u32, bytes: &[u8]) -> Result<ScriptLine, TextKind>
+    ensures value { result ≡ event_of_words line seats (words_of bytes.now) }
+    ensures named { IfOk result (λ event. IsNamedAct event.act) }
+{
+    let Some((word, rest)) = cut_word(bytes) else {
+        return Err(TextKind::BadWord);
+    };
+    seated(line, number_up_to(seats, word), act_of_words(rest))
+}
+
+// Adds an event, if there is room for one more.
+fn push_event(
+    lines: &mut Vec<ScriptLine>,
+    line: usize,
+    seat: u32,
+    act: Act,
+) -> Result<(), LineFault>
+    requires named { IsNamedAct act }
+    requires all_named { AreNamedEvents lines.old.items }
+    ensures made { Makes (with_item MAX_EVENTS lines.old.items (Ok (record { line = line; seat = seat; act = act }))) result lines.new.items }
+    ensures named { OnOk result (AreNamedEvents lines.new.items) }
+{
+    if lines.len() >= MAX_EVENTS {
+        return Err(LineFault::Kind(TextKind::TooMany));
+    }
+    // Without a step at hand the check does not learn what an event holds.
+    let event = match act {
+        Act::Stage(step) => ScriptLine {
+            line,
+            seat,
+            act: Act::Stage(step),
+        },
+        _ => ScriptLine { line, seat, act },
+    };
+    lines.push(event)?;
+    Ok(())
+}
+
+// Adds the event of a line that is not skipped.
+#[tactic(auto, unfolding(crate::specs::ScriptText::event_item))]
+fn add_event(
+    lines: &mut Vec<ScriptLine>,
+    seats: u32,
+    line: usize,
+    words: &[u8],
+) -> Result<(), LineFault>
+    requires { AreNamedEvents lines.old.items }
+    ensures made { Makes (event_item line seats lines.old.items (words_of words.now)) result lines.new.items }
+    ensures named { OnOk result (AreNamedEvents lines.new.items) }
+{
+    match event_of_words(line, seats, words) {
+        Ok(ScriptLine { line, seat, act }) => {
+            push_event(lines, line, seat, act)?;
+            Ok(())
+        },
+        Err(kind) => Err(LineFault::Kind(kind)),
+    }
+}
+
+// The number in a header line, whose first word is the keyword.
+#[tactic(auto, unfolding(crate::specs::ScriptText::header_number))]
+fn header_number(keyword: &[u8], limit: u32, bytes: &[u8]) -> Result<u32, TextKind>
+    ensures { result ≡ header_number keyword.now limit (words_of bytes.now) }
+{
+    match cut_word(bytes) {
+        Some((word, rest)) if word == keyword => {
+            let number = one_word(rest)?;
+            number_up_to(limit, number)
+        },
+        _ => Err(TextKind::BadWord),
+    }
+}
+
+// Adds what the words of a line that is not skipped say.
+#[tactic(auto, unfolding(crate::specs::ScriptText::script_item))]
+fn add_item(
+    header: &mut Header,
+    lines: &mut Vec<ScriptLine>,
+    line: usize,
+    words: &[u8],
+) -> Result<(), LineFault>
+    requires { AreNamedEvents lines.old.items }
+    ensures made { Makes (script_item line (header.old, lines.old.items) (words_of words.now)) result (header.new, lines.new.items) }
+    ensures named { OnOk result (AreNamedEvents lines.new.items) }
+{
+    match *header {
+        Header::Nothing => *header = Header::Seats(header_number(b"seats", MAX_SEATS, words)?),
+        Header::Seats(seats) => {
+            let cells = header_number(b"cells", MAX_CELLS, words)?;
+            *header = Header::Whole { seats, cells };
+        },
+        Header::Whole { seats, .. } => add_event(lines, seats, line, words)?,
+    }
+    Ok(())
+}
+
+fn add_line(
+    header: &mut Header,
+    lines: &mut Vec<ScriptLine>,
+    line: usize,
+    bytes: &[u8],
+) -> Result<(), LineFault>
+    requires { AreNamedEvents lines.old.items }
+    ensures made { Makes (after_line (script_item line) (header.old, lines.old.items) bytes.now) result (header.new, lines.new.items) }
+    ensures named { OnOk result (AreNamedEvents lines.new.items) }
+{
+    let Some(words) = content(bytes)? else {
+        return Ok(());
+    };
+    add_item(header, lines, line, words)?;
+    Ok(())
+}
+
+#[tactic(auto, unfolding(crate::specs::ScriptText::script_text))]
+/// The script of a text.
+///
+/// `At` names the first faulty line, and the first of these that it has: `LineTooLong`, `BadWord`,
+/// `WordCount`, `BadNumber`, `BadName`, `BadRights`, `TooMany` where there are 65,536 events already.
+/// Where the text ends before both header lines it is `NoHeader`, on the line behind the last.
+/// `Memory` is answered where a growth was refused, whatever stands further on.
+pub fn read_script(alloc: Global, text: &[u8]) -> Result<Script, TextFault>
+    ensures value { Reads script_of result (script_text text.now) }
+    ensures named { IfOk result (λ script. AreNamedEvents script.lines.items) }
+{
+    let mut header = Header::Nothing;
+    let mut lines = Vec::new(alloc);
+    let mut rest = text;
+    let mut line = 0;
+    while !rest.is_empty() {
+        let (bytes, after) = cut_line(rest);
+        line += 1;
+        if let Err(fault) = add_line(&mut header, &mut lines, line, bytes) {
+            return Err(fault.on_line(line));
+        }
+        rest = after;
+    }
+    let Header::Whole { seats, cells } = header else {
+        return Err(TextFault::At {
+            line: line + 1,
+            kind: TextKind::NoHeader,
+        });
+    };
+    Ok(Script {
+        seats,
+        cells: cells as usize,
+        lines,
+    })
+}

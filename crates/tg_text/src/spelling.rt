@@ -1,0 +1,198 @@
+//! Rules, replies and numbers as text.
+ghost use Rattle.std.specs.Prelude.{◌≡◌, ◌+◌, ◌≤◌, ◌<◌, ◌++◌, ◌∷◌, [], IfOk, OnOk, OnErr, length, vec_len, vec_capacity};
+ghost use Rattle.std.specs.Fmt.{decimal};
+ghost use Rattle.tg_text.specs.Spelling.{rule_text, reply_text, refusal_words, rights_text, spaced};
+ghost use Rattle.tg_graph.specs.Letters.{letters_among};
+
+use std::alloc::{AllocError, Global};
+use tg_graph::{Name, Refusal, Reply, Right, Rights, Rule};
+
+/// As many bytes as the line of a rule has at most.
+pub const LONGEST_RULE: usize = 62;
+
+/// As many bytes as the text of a reply has at most.
+pub const LONGEST_REPLY: usize = 32;
+
+/// As many digits as a number has at most.
+pub const LONGEST_NUMBER: usize = 20;
+
+// Appends bytes for which there is room.
+pub(crate) fn put(text: &mut Vec<u8>, bytes: &[u8])
+    requires { vec_len text.old + length bytes.now ≤ vec_capacity text.old }
+    ensures items { text.new.items ≡ text.old.items ++ bytes.now }
+    ensures len { vec_len text.new ≡ vec_len text.old + length bytes.now }
+    ensures capacity { vec_capacity text.old ≤ vec_capacity text.new }
+{
+    let _ = text.extend_from_slice(bytes);
+}
+
+// Appends a space and a name.
+pub(crate) fn put_name(text: &mut Vec<u8>, name: Name)
+    requires { vec_len text.old + 17 ≤ vec_capacity text.old }
+    ensures items { text.new.items ≡ text.old.items ++ 32 ∷ name }
+    ensures len { vec_len text.new ≤ vec_len text.old + 17 }
+    ensures capacity { vec_capacity text.old ≤ vec_capacity text.new }
+{
+    text.push_reserved(b' ');
+    put(text, name.as_bytes());
+}
+
+// Appends the letters of those of the rights that are in the set.
+fn put_letters(text: &mut Vec<u8>, set: Rights, rights: &[Right])
+    requires { vec_len text.old + length rights.now ≤ vec_capacity text.old }
+    ensures items { text.new.items ≡ text.old.items ++ letters_among set rights.now }
+    ensures len { vec_len text.new ≡ vec_len text.old + length (letters_among set rights.now) }
+    ensures capacity { vec_capacity text.old ≤ vec_capacity text.new }
+{
+    for right in rights {
+        if set.has(*right) {
+            text.push_reserved(right.letter());
+        }
+    }
+}
+
+// Appends a space and the letters of a set of rights.
+pub(crate) fn put_rights(text: &mut Vec<u8>, rights: Rights)
+    requires { vec_len text.old + 6 ≤ vec_capacity text.old }
+    ensures items { text.new.items ≡ text.old.items ++ 32 ∷ rights_text rights }
+    ensures len { vec_len text.new ≤ vec_len text.old + 6 }
+    ensures capacity { vec_capacity text.old ≤ vec_capacity text.new }
+{
+    text.push_reserved(b' ');
+    let start = text.len();
+    put_letters(
+        text,
+        rights,
+        &[Right::T, Right::G, Right::R, Right::W, Right::E],
+    );
+    if text.len() == start {
+        text.push_reserved(b'-');
+    }
+}
+
+/// Appends the line of a rule, without a line feed. It fails only where there is no room and memory is refused,
+/// and the text then stays as it was.
+pub fn append_rule(text: &mut Vec<u8>, rule: &Rule) -> Result<(), AllocError>
+    ensures appended { OnOk result (text.new.items ≡ text.old.items ++ rule_text rule.now) }
+    ensures kept { OnErr result (text.new.items ≡ text.old.items) }
+    ensures full { OnErr result (vec_capacity text.old < vec_len text.old + LONGEST_RULE) }
+{
+    text.reserve(LONGEST_RULE)?;
+    match *rule {
+        Rule::Take { x, y, z, rights } => {
+            put(text, b"take");
+            put_name(text, x);
+            put_name(text, y);
+            put_name(text, z);
+            put_rights(text, rights);
+        }
+        Rule::Grant { x, y, z, rights } => {
+            put(text, b"grant");
+            put_name(text, x);
+            put_name(text, y);
+            put_name(text, z);
+            put_rights(text, rights);
+        }
+        Rule::Create { x, n, rights } => {
+            put(text, b"create");
+            put_name(text, x);
+            put_name(text, n);
+            put_rights(text, rights);
+        }
+        Rule::Remove { x, y, rights } => {
+            put(text, b"remove");
+            put_name(text, x);
+            put_name(text, y);
+            put_rights(text, rights);
+        }
+    }
+    Ok(())
+}
+
+// Appends a space and the words of a refusal.
+fn put_refusal(text: &mut Vec<u8>, refusal: Refusal)
+    requires { vec_len text.old + 25 ≤ vec_capacity text.old }
+    ensures { text.new.items ≡ text.old.items ++ 32 ∷ spaced (refusal_words refusal) }
+{
+    match refusal {
+        Refusal::Unknown(name) => {
+            put(text, b" unknown");
+            put_name(text, name);
+        }
+        Refusal::Taken(name) => {
+            put(text, b" taken");
+            put_name(text, name);
+        }
+        Refusal::Empty => put(text, b" empty"),
+        Refusal::NoTake => put(text, b" no-take"),
+        Refusal::NoGrant => put(text, b" no-grant"),
+        Refusal::NotHeld(rights) => {
+            put(text, b" not-held");
+            put_rights(text, rights);
+        }
+        Refusal::Full => put(text, b" full"),
+    }
+}
+
+/// Appends the text of a reply. It fails only where there is no room and memory is refused, and the text then
+/// stays as it was.
+pub fn append_reply(text: &mut Vec<u8>, reply: &Reply) -> Result<(), AllocError>
+    ensures appended { OnOk result (text.new.items ≡ text.old.items ++ reply_text reply.now) }
+    ensures kept { OnErr result (text.new.items ≡ text.old.items) }
+    ensures full { OnErr result (vec_capacity text.old < vec_len text.old + LONGEST_REPLY) }
+{
+    text.reserve(LONGEST_REPLY)?;
+    match *reply {
+        Reply::Done => put(text, b"done"),
+        Reply::Yes => put(text, b"yes"),
+        Reply::No => put(text, b"no"),
+        Reply::Refused(refusal) => {
+            put(text, b"refused");
+            put_refusal(text, refusal);
+        }
+    }
+    Ok(())
+}
+
+// Appends a number in decimal.
+fn put_number(text: &mut Vec<u8>, number: usize)
+    requires { vec_len text.old + length (decimal number) ≤ vec_capacity text.old }
+    ensures items { text.new.items ≡ text.old.items ++ decimal number }
+    ensures len { vec_len text.new ≡ vec_len text.old + length (decimal number) }
+    ensures capacity { vec_capacity text.old ≤ vec_capacity text.new }
+{
+    if number >= 10 {
+        put_number(text, number / 10);
+    }
+    text.push_reserved(b'0' + (number % 10) as u8);
+}
+
+/// Appends a number in decimal, without leading zeros. It fails only where there is no room and memory is
+/// refused, and the text then stays as it was.
+pub fn append_number(text: &mut Vec<u8>, number: usize) -> Result<(), AllocError>
+    ensures appended { OnOk result (text.new.items ≡ text.old.items ++ decimal number) }
+    ensures kept { OnErr result (text.new.items ≡ text.old.items) }
+    ensures full { OnErr result (vec_capacity text.old < vec_len text.old + LONGEST_NUMBER) }
+{
+    text.reserve(LONGEST_NUMBER)?;
+    put_number(text, number);
+    Ok(())
+}
+
+/// The line of a rule, with single spaces and without a line feed. The error is want of memory.
+pub fn write_rule(alloc: Global, rule: &Rule) -> Result<Vec<u8>, AllocError>
+    ensures { IfOk result (λ text. text.items ≡ rule_text rule.now) }
+{
+    let mut text = Vec::new(alloc);
+    append_rule(&mut text, rule)?;
+    Ok(text)
+}
+
+/// The text of a reply, without a line feed. The error is want of memory.
+pub fn write_reply(alloc: Global, reply: &Reply) -> Result<Vec<u8>, AllocError>
+    ensures { IfOk result (λ text. text.items ≡ reply_text reply.now) }
+{
+    let mut text = Vec::new(alloc);
+    append_reply(&mut text, reply)?;
+    Ok(text)
+}

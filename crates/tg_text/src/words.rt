@@ -1,0 +1,141 @@
+//! The words of a line.
+ghost use Rattle.std.specs.Prelude.{◌≡◌, ◌<◌, ◌≤◌, ◌∷◌, [], ◌+◌, ◌*◌, nat_lt, true, false, take, drop, length, IfOk, IfErr, MatchOption, MatchResult, Ok, Err};
+ghost use Rattle.tg_graph.specs.Sets.{IsNamed};
+ghost use Rattle.tg_text.specs.Lines.{words_of};
+ghost use Rattle.tg_text.specs.Words.{no_words, one_word, three_words, four_words, name_at, rights_at, right_at, number_up_to, number_of, with_digits, is_digit};
+ghost use Rattle.tg_text.specs.GraphText.{edge_rights_at};
+ghost use Rattle.tg_text.specs.Reading.{Sees};
+
+use crate::faults::TextKind;
+use crate::lines::cut_word;
+use bitflags::Flags;
+use tg_graph::{Name, Right, Rights};
+
+// The first word, and what stands behind it.
+fn first_word(bytes: &[u8]) -> Result<(&[u8], &[u8]), TextKind>
+    ensures { MatchResult result
+        (λ cut. words_of bytes.now ≡ cut.0.now ∷ words_of cut.1.now)
+        (λ kind. (kind ≡ TextKind.WordCount) × (words_of bytes.now ≡ [])) }
+{
+    match cut_word(bytes) {
+        Some(cut) => Ok(cut),
+        None => Err(TextKind::WordCount),
+    }
+}
+
+pub(crate) fn no_words(bytes: &[u8]) -> Result<(), TextKind>
+    ensures { result ≡ no_words (words_of bytes.now) }
+{
+    match cut_word(bytes) {
+        Some(_) => Err(TextKind::WordCount),
+        None => Ok(()),
+    }
+}
+
+pub(crate) fn one_word(bytes: &[u8]) -> Result<&[u8], TextKind>
+    ensures { Sees (λ w. w.now) result (one_word (words_of bytes.now)) }
+{
+    let (first, rest) = first_word(bytes)?;
+    no_words(rest)?;
+    Ok(first)
+}
+
+pub(crate) fn three_words(bytes: &[u8]) -> Result<(&[u8], &[u8], &[u8]), TextKind>
+    ensures { Sees (λ w. (w.0.now, w.1.now, w.2.now)) result (three_words (words_of bytes.now)) }
+{
+    let (first, rest) = first_word(bytes)?;
+    let (second, rest) = first_word(rest)?;
+    let third = one_word(rest)?;
+    Ok((first, second, third))
+}
+
+pub(crate) fn four_words(bytes: &[u8]) -> Result<(&[u8], &[u8], &[u8], &[u8]), TextKind>
+    ensures { Sees (λ w. (w.0.now, w.1.now, w.2.now, w.3.now)) result (four_words (words_of bytes.now)) }
+{
+    let (first, rest) = first_word(bytes)?;
+    let (second, third, fourth) = three_words(rest)?;
+    Ok((first, second, third, fourth))
+}
+
+pub(crate) fn name_at(word: &[u8]) -> Result<Name, TextKind>
+    ensures { result ≡ name_at word.now }
+{
+    match Name::parse(word) {
+        Ok(name) => Ok(name),
+        Err(_) => Err(TextKind::BadName),
+    }
+}
+
+pub(crate) fn rights_at(word: &[u8]) -> Result<Rights, TextKind>
+    ensures value { result ≡ rights_at word.now }
+    ensures named { IfOk result IsNamed }
+{
+    match Rights::from_letters(word) {
+        Some(rights) => Ok(rights),
+        None => Err(TextKind::BadRights),
+    }
+}
+
+#[tactic(auto, unfolding(crate::specs::GraphText::edge_rights_at))]
+pub(crate) fn edge_rights_at(word: &[u8]) -> Result<Rights, TextKind>
+    ensures value { result ≡ edge_rights_at word.now }
+    ensures named { IfOk result IsNamed }
+{
+    let rights = rights_at(word)?;
+    if rights.is_empty() {
+        return Err(TextKind::BadRights);
+    }
+    Ok(rights)
+}
+
+pub(crate) fn right_at(word: &[u8]) -> Result<Right, TextKind>
+    ensures { result ≡ right_at word.now }
+{
+    match word {
+        [letter] => match Right::from_letter(*letter) {
+            Some(right) => Ok(right),
+            None => Err(TextKind::BadRights),
+        },
+        _ => Err(TextKind::BadRights),
+    }
+}
+
+fn is_digit(byte: u8) -> bool
+    ensures { result ≡ is_digit byte }
+{
+    b'0' <= byte && byte <= b'9'
+}
+
+// The number that digits write, at most four of them.
+fn with_digits(digits: &[u8]) -> Option<u32>
+    requires { length digits.now ≤ 4 }
+    ensures { result ≡ with_digits 0 digits.now }
+{
+    let mut number = 0;
+    for byte in digits {
+        if !is_digit(*byte) {
+            return None;
+        }
+        number = 10 * number + u32::from(*byte - b'0');
+    }
+    Some(number)
+}
+
+fn number_of(word: &[u8]) -> Option<u32>
+    ensures { result ≡ number_of word.now }
+{
+    match word {
+        [] => None,
+        [first, rest @ ..] if *first == b'0' || rest.len() > 3 => None,
+        _ => with_digits(word),
+    }
+}
+
+pub(crate) fn number_up_to(limit: u32, word: &[u8]) -> Result<u32, TextKind>
+    ensures { result ≡ number_up_to limit word.now }
+{
+    match number_of(word) {
+        Some(number) if number <= limit => Ok(number),
+        _ => Err(TextKind::BadNumber),
+    }
+}
