@@ -1,0 +1,214 @@
+-- The steps of a flood.
+use Rattle.std.proofs.Common.{◌≡◌, ℕ, ◌<◌, Bool, true, false, List, [], ◌∷◌, ◌++◌, Option, Some, None, refl, sym, ap, subst, ◌∙◌, nat_eq, is_some, length, get_or, true≢false, inl, inr, ◌⊎◌, ◌||◌}
+use Rattle.std.specs.List.{list_any}
+use Rattle.std.proofs.lemmas.Bool.{eqb-true, eq-eqb}
+use Rattle.std.proofs.lemmas.List.Folds.{list_any-append, list_any_at}
+use Rattle.tg_analysis.specs.declared.flooding.Flood.{Flood}
+use Rattle.tg_analysis.specs.Linked.{NeighbourLists, neighbours, is_near}
+use Rattle.tg_analysis.specs.Flooding.{number_at, IsOneOf, HasWay, Meets, FloodsSoFar}
+
+-- a number that was given stays
+abbrev pub Kept : Flood → Flood → Type 0
+Kept s t = (a m : ℕ) → number_at s a ≡ Some m → number_at t a ≡ Some m
+
+module _ (s t : Flood) (kept : Kept s t) (a : ℕ) where
+  was_none : number_at t a ≡ None → number_at s a ≡ None
+  was_none e = by (number_at s a) refl
+    where
+      by : (o : Option ℕ) → number_at s a ≡ o → number_at s a ≡ None
+      by None p = p
+      by (Some m) p = absurd (true≢false (sym (ap is_some (kept a m p)) ∙ ap is_some e))
+
+  some_kept : is_some (number_at s a) ≡ true → is_some (number_at t a) ≡ true
+  some_kept h = by (number_at s a) refl h
+    where
+      by : (o : Option ℕ) → number_at s a ≡ o → is_some o ≡ true → is_some (number_at t a) ≡ true
+      by None p q = absurd (true≢false (sym q))
+      by (Some m) p q = ap is_some (kept a m p)
+
+or_cases : (x y : Bool) → (x || y) ≡ true → (x ≡ true) ⊎ (y ≡ true)
+or_cases true y h = inl refl
+or_cases false y h = inr h
+
+or_left : (x y : Bool) → x ≡ true → (x || y) ≡ true
+or_left x y h = ap (λ b. b || y) h
+
+or_right : (x y : Bool) → y ≡ true → (x || y) ≡ true
+or_right true y h = refl
+or_right false y h = h
+
+pub one_of-append : (a : ℕ) (xs ys : List ℕ) → IsOneOf a (xs ++ ys) → IsOneOf a xs ⊎ IsOneOf a ys
+one_of-append a xs ys h = or_cases (list_any (nat_eq a) xs) (list_any (nat_eq a) ys) (sym (list_any-append (nat_eq a) xs ys) ∙ h)
+
+one_of-left : (a : ℕ) (xs ys : List ℕ) → IsOneOf a xs → IsOneOf a (xs ++ ys)
+one_of-left a xs ys h = list_any-append (nat_eq a) xs ys ∙ or_left (list_any (nat_eq a) xs) (list_any (nat_eq a) ys) h
+
+one_of-right : (a : ℕ) (xs ys : List ℕ) → IsOneOf a ys → IsOneOf a (xs ++ ys)
+one_of-right a xs ys h = list_any-append (nat_eq a) xs ys ∙ or_right (list_any (nat_eq a) xs) (list_any (nat_eq a) ys) h
+
+pub one_of-single : (a b : ℕ) → IsOneOf a (b ∷ []) → a ≡ b
+one_of-single a b h = by (or_cases (nat_eq a b) false h)
+  where
+    by : (nat_eq a b ≡ true) ⊎ (false ≡ true) → a ≡ b
+    by (inl e) = eqb-true a b e
+    by (inr e) = absurd (true≢false (sym e))
+
+pub single-one_of : (a : ℕ) → IsOneOf a (a ∷ [])
+single-one_of a = or_left (nat_eq a a) false (eq-eqb a a refl)
+
+pub item-one_of : (xs : List ℕ) (i : ℕ) → i < length xs → IsOneOf (get_or xs i 0) xs
+item-one_of xs i h = list_any_at (nat_eq (get_or xs i 0)) xs i 0 h (eq-eqb (get_or xs i 0) (get_or xs i 0) refl)
+
+-- ---- positions met in turn
+pub meets-none : (s : Flood) → Meets [] s s
+meets-none s = record {
+  len = refl;
+  current = refl;
+  kept = λ a m e. e;
+  numbered = λ a e. inl e;
+  still_waits = λ a h. h;
+  waits = λ a h. inl h;
+  met = λ a h. absurd (true≢false (sym h));
+  work = refl;
+}
+
+module _ (ps : List ℕ) (p : ℕ) (s t u : Flood) (m : Meets ps s t) (n : Meets (p ∷ []) t u) where
+  now : (a : ℕ) → number_at u a ≡ Some t.current → number_at u a ≡ Some s.current
+  now a e = e ∙ ap Some m.current
+
+  abbrev Joins : ℕ → Type 0
+  Joins a = (number_at u a ≡ None) ⊎ ((number_at u a ≡ Some s.current) × IsOneOf a (ps ++ p ∷ []) × IsOneOf a u.waiting.items)
+
+  joins-later : (a : ℕ) → (number_at u a ≡ None) ⊎ ((number_at u a ≡ Some t.current) × IsOneOf a (p ∷ []) × IsOneOf a u.waiting.items) → Joins a
+  joins-later a (inl e) = inl e
+  joins-later a (inr h) = inr (now a h.0, one_of-right a ps (p ∷ []) h.1, h.2)
+
+  joins : (a : ℕ) → (number_at t a ≡ None) ⊎ ((number_at t a ≡ Some s.current) × IsOneOf a ps × IsOneOf a t.waiting.items) → Joins a
+  joins a (inl e) = joins-later a (n.numbered a e)
+  joins a (inr h) = inr (n.kept a s.current h.0, one_of-left a ps (p ∷ []) h.1, n.still_waits a h.2)
+
+  abbrev Awaits : ℕ → Type 0
+  Awaits a = IsOneOf a s.waiting.items ⊎ ((number_at s a ≡ None) × (number_at u a ≡ Some s.current))
+
+  awaits-earlier : (a : ℕ) → IsOneOf a s.waiting.items ⊎ ((number_at s a ≡ None) × (number_at t a ≡ Some s.current)) → Awaits a
+  awaits-earlier a (inl h) = inl h
+  awaits-earlier a (inr h) = inr (h.0, n.kept a s.current h.1)
+
+  awaits : (a : ℕ) → IsOneOf a t.waiting.items ⊎ ((number_at t a ≡ None) × (number_at u a ≡ Some t.current)) → Awaits a
+  awaits a (inl h) = awaits-earlier a (m.waits a h)
+  awaits a (inr h) = inr (was_none s t m.kept a h.0, now a h.1)
+
+  met_both : (a : ℕ) → IsOneOf a ps ⊎ IsOneOf a (p ∷ []) → is_some (number_at u a) ≡ true
+  met_both a (inl h) = some_kept t u n.kept a (m.met a h)
+  met_both a (inr h) = n.met a h
+
+  pub meets-more : Meets (ps ++ p ∷ []) s u
+  meets-more = record {
+    len = n.len ∙ m.len;
+    current = n.current ∙ m.current;
+    kept = λ a k e. n.kept a k (m.kept a k e);
+    numbered = λ a e. joins a (m.numbered a e);
+    still_waits = λ a h. n.still_waits a (m.still_waits a h);
+    waits = λ a h. awaits a (n.waits a h);
+    met = λ a h. met_both a (one_of-append a ps (p ∷ []) h);
+    work = n.work ∙ m.work;
+  }
+
+-- ---- one position after another
+pub floods-seed : (links : NeighbourLists) (seed : ℕ) (old new : Flood) → old.waiting.items ≡ [] → Meets (seed ∷ []) old new → FloodsSoFar links seed old new
+floods-seed links seed old new calm m = record {
+  len = m.len;
+  current = m.current;
+  kept = m.kept;
+  numbered = λ a e. numbered a (m.numbered a e);
+  seed_met = m.met seed (single-one_of seed);
+  spreads = λ a e f. spreads a f (m.numbered a e);
+  waits = λ a h. waits a (m.waits a h);
+}
+  where
+    numbered : (a : ℕ) → (number_at new a ≡ None) ⊎ ((number_at new a ≡ Some old.current) × IsOneOf a (seed ∷ []) × IsOneOf a new.waiting.items) → (number_at new a ≡ None) ⊎ ((number_at new a ≡ Some old.current) × HasWay links seed a)
+    numbered a (inl e) = inl e
+    numbered a (inr h) = inr (h.0, ([], sym (one_of-single a seed h.1)))
+
+    spreads : (a : ℕ) → number_at new a ≡ Some old.current → (number_at new a ≡ None) ⊎ ((number_at new a ≡ Some old.current) × IsOneOf a (seed ∷ []) × IsOneOf a new.waiting.items) → IsOneOf a new.waiting.items ⊎ ((b : ℕ) → is_near links a b ≡ true → is_some (number_at new b) ≡ true)
+    spreads a f (inl e) = absurd (true≢false (sym (ap is_some f) ∙ ap is_some e))
+    spreads a f (inr h) = inl h.2
+
+    waits : (a : ℕ) → IsOneOf a old.waiting.items ⊎ ((number_at old a ≡ None) × (number_at new a ≡ Some old.current)) → (number_at old a ≡ None) × (number_at new a ≡ Some old.current)
+    waits a (inl h) = absurd (true≢false (sym h ∙ ap (list_any (nat_eq a)) calm))
+    waits a (inr h) = h
+
+-- the last of those that wait is taken out
+pub record TakesLast (p : ℕ) (old new : Flood) : Type 0 where
+  pub numbers : new.numbers ≡ old.numbers
+  pub current : new.current ≡ old.current
+  pub waiting : old.waiting.items ≡ new.waiting.items ++ p ∷ []
+
+module _ (links : NeighbourLists) (seed : ℕ) (old now mid next : Flood) (p : ℕ) (f : FloodsSoFar links seed old now) (l : TakesLast p now mid) (m : Meets (neighbours links p) mid next) where
+  same : (a : ℕ) → number_at mid a ≡ number_at now a
+  same a = ap (λ numbers. number_at (record { numbers = numbers; waiting = mid.waiting; current = mid.current }) a) l.numbers
+
+  last_waits : IsOneOf p now.waiting.items
+  last_waits = subst (IsOneOf p) (sym l.waiting) (one_of-right p mid.waiting.items (p ∷ []) (single-one_of p))
+
+  current_is : mid.current ≡ old.current
+  current_is = l.current ∙ f.current
+
+  kept_on : Kept now next
+  kept_on a k e = m.kept a k (same a ∙ e)
+
+  on : (a : ℕ) → number_at next a ≡ Some mid.current → number_at next a ≡ Some old.current
+  on a e = e ∙ ap Some current_is
+
+  -- a neighbour of the position that was taken can be reached by way of it
+  abbrev Numbered : ℕ → Type 0
+  Numbered a = (number_at next a ≡ None) ⊎ ((number_at next a ≡ Some old.current) × HasWay links seed a)
+
+  way_on : (a : ℕ) → IsOneOf a (neighbours links p) → (number_at now p ≡ None) ⊎ ((number_at now p ≡ Some old.current) × HasWay links seed p) → HasWay links seed a
+  way_on a h (inl e) = absurd (true≢false (sym (ap is_some (f.waits p last_waits).1) ∙ ap is_some e))
+  way_on a h (inr w) = (p ∷ w.1.0, (w.1.1, h))
+
+  numbered-new : (a : ℕ) → (number_at next a ≡ None) ⊎ ((number_at next a ≡ Some mid.current) × IsOneOf a (neighbours links p) × IsOneOf a next.waiting.items) → Numbered a
+  numbered-new a (inl e) = inl e
+  numbered-new a (inr h) = inr (on a h.0, way_on a h.1 (f.numbered p (f.waits p last_waits).0))
+
+  numbered : (a : ℕ) → (number_at now a ≡ None) ⊎ ((number_at now a ≡ Some old.current) × HasWay links seed a) → Numbered a
+  numbered a (inl e) = numbered-new a (m.numbered a (same a ∙ e))
+  numbered a (inr h) = inr (kept_on a old.current h.0, h.1)
+
+  abbrev Spreads : ℕ → Type 0
+  Spreads a = IsOneOf a next.waiting.items ⊎ ((b : ℕ) → is_near links a b ≡ true → is_some (number_at next b) ≡ true)
+
+  spreads-waiting : (a : ℕ) → IsOneOf a mid.waiting.items ⊎ IsOneOf a (p ∷ []) → Spreads a
+  spreads-waiting a (inl h) = inl (m.still_waits a h)
+  spreads-waiting a (inr h) = inr (λ b near. m.met b (subst (λ n. is_near links n b ≡ true) (one_of-single a p h) near))
+
+  spreads-old : (a : ℕ) → IsOneOf a now.waiting.items ⊎ ((b : ℕ) → is_near links a b ≡ true → is_some (number_at now b) ≡ true) → Spreads a
+  spreads-old a (inl h) = spreads-waiting a (one_of-append a mid.waiting.items (p ∷ []) (subst (IsOneOf a) l.waiting h))
+  spreads-old a (inr h) = inr (λ b near. some_kept now next kept_on b (h b near))
+
+  spreads-new : (a : ℕ) → number_at next a ≡ Some old.current → (number_at next a ≡ None) ⊎ ((number_at next a ≡ Some mid.current) × IsOneOf a (neighbours links p) × IsOneOf a next.waiting.items) → Spreads a
+  spreads-new a e (inl n) = absurd (true≢false (sym (ap is_some e) ∙ ap is_some n))
+  spreads-new a e (inr h) = inl h.2
+
+  spreads : (a : ℕ) → number_at old a ≡ None → number_at next a ≡ Some old.current → Spreads a
+  spreads a e g = by (f.numbered a e)
+    where
+      by : (number_at now a ≡ None) ⊎ ((number_at now a ≡ Some old.current) × HasWay links seed a) → Spreads a
+      by (inl n) = spreads-new a g (m.numbered a (same a ∙ n))
+      by (inr h) = spreads-old a (f.spreads a e h.0)
+
+  waits : (a : ℕ) → IsOneOf a mid.waiting.items ⊎ ((number_at mid a ≡ None) × (number_at next a ≡ Some mid.current)) → (number_at old a ≡ None) × (number_at next a ≡ Some old.current)
+  waits a (inl h) = let w = f.waits a (subst (IsOneOf a) (sym l.waiting) (one_of-left a mid.waiting.items (p ∷ []) h)) in (w.0, kept_on a old.current w.1)
+  waits a (inr h) = (was_none old now f.kept a (sym (same a) ∙ h.0), on a h.1)
+
+  pub floods-more : FloodsSoFar links seed old next
+  floods-more = record {
+    len = m.len ∙ ap (λ numbers. length numbers.items) l.numbers ∙ f.len;
+    current = m.current ∙ current_is;
+    kept = λ a k e. kept_on a k (f.kept a k e);
+    numbered = λ a e. numbered a (f.numbered a e);
+    seed_met = some_kept now next kept_on seed f.seed_met;
+    spreads = spreads;
+    waits = λ a h. waits a (m.waits a h);
+  }

@@ -1,0 +1,169 @@
+-- The way back from a vertex that a search has met.
+use Rattle.std.proofs.Common.{◌≡◌, ℕ, zero, suc, ◌<◌, ◌≤◌, ◌==◌, true, false, inl, inr, if◌then◌else◌, List, [], ◌∷◌, ◌++◌, Option, Some, None, slice_get, refl, sym, ap, ◌∙◌, subst, IsTrue, arith, bytes_eq}
+use Rattle.std.proofs.lemmas.Bool.{true≢false, both_ways, or_cases, false_from_ne_true}
+use Rattle.std.proofs.lemmas.Bool.Decides.{nat_tests}
+use Rattle.std.specs.List.{list_any, IsDistinct, position}
+use Rattle.std.specs.Map.{keys_of}
+use Rattle.std.specs.Option.{option_and_then}
+use Rattle.tg_graph.specs.declared.right_sets.Right.{Right}
+use Rattle.tg_graph.specs.Graphs.{Name, same_name, ProtectionGraph, has_vertex}
+use Rattle.tg_graph.proofs.Rows.{same_bytes}
+use Rattle.tg_analysis.specs.Sharing.{linked, IsChain, NoRepeat}
+use Rattle.tg_analysis.specs.Searches.{Visits, is_among, back_of, GoesBack, IsWayBack, IsBackwards, IsSearch, IsSearched, IsWay}
+use Rattle.tg_analysis.proofs.OneIsland.{linked_sym}
+use Rattle.tg_analysis.proofs.Places.{position-at, place-known}
+use Rattle.tg_analysis.proofs.Searched.{visit-key, key-visit}
+
+some_pair : (a b : Name × ℕ) → Some a ≡ Some b → (a.0 ≡ b.0) × (a.1 ≡ b.1)
+some_pair a b h = let e : a ≡ b = cc in (ap (λ (t : Name × ℕ). t.0) e, ap (λ (t : Name × ℕ). t.1) e)
+
+-- what stands before the visit
+abbrev before_visit : Visits → Name × ℕ → Option (Name × ℕ)
+before_visit met visit = option_and_then {U = Name × ℕ} (λ (b : Name × ℕ). Some (b.0, visit.1)) (slice_get met visit.1)
+
+suc_test : (n : ℕ) → (suc n == 0) ≡ false
+suc_test n = grind (arith, nat_tests)
+
+back_suc : (met : Visits) (n : ℕ) → back_of met (suc n) ≡ option_and_then {U = Name × ℕ} (before_visit met) (slice_get met (suc n))
+back_suc met n = ap (λ b. if b then None else option_and_then {U = Name × ℕ} (before_visit met) (slice_get met (suc n))) (suc_test n)
+
+pub backwards : (g : ProtectionGraph) (met : Visits) → IsSearch g met → IsBackwards met
+backwards g met s = λ place visit positive h. (s.trail place visit.0 visit.1 positive h).earlier
+
+-- what a step back says
+pub record StepBack (met : Visits) (place : ℕ) (v : Name) (before : ℕ) : Type 0 where
+  pub positive : 0 < place
+  pub name : Name
+  pub here : slice_get met place ≡ Some (name, before)
+  pub from : ℕ
+  pub there : slice_get met before ≡ Some (v, from)
+
+pub step_back : (met : Visits) (place : ℕ) (v : Name) (before : ℕ) → back_of met place ≡ Some (v, before) → StepBack met place v before
+step_back met zero v before h = absurd (cc)
+step_back met (suc n) v before h = go (slice_get met (suc n)) refl (sym (back_suc met n) ∙ h)
+  where
+    go : (o : Option (Name × ℕ)) → slice_get met (suc n) ≡ o → option_and_then {U = Name × ℕ} (before_visit met) o ≡ Some (v, before) → StepBack met (suc n) v before
+    go None e h = absurd (cc)
+    go (Some visit) e h = inner (slice_get met visit.1) refl h
+      where
+        inner : (o : Option (Name × ℕ)) → slice_get met visit.1 ≡ o → option_and_then {U = Name × ℕ} (λ (b : Name × ℕ). Some (b.0, visit.1)) o ≡ Some (v, before) → StepBack met (suc n) v before
+        inner None f h = absurd (cc)
+        inner (Some b) f h =
+            let same = some_pair (b.0, visit.1) (v, before) h in
+            record {
+              positive = omega arith;
+              name = visit.0;
+              here = e ∙ ap (λ n. Some (visit.0, n)) same.1;
+              from = b.1;
+              there = ap (slice_get met) (sym same.1) ∙ f ∙ ap (λ n. Some (n, b.1)) same.0;
+            }
+
+back_goes : (met : Visits) (n : ℕ) (visit before : Name × ℕ) → slice_get met (suc n) ≡ Some visit → slice_get met visit.1 ≡ Some before → back_of met (suc n) ≡ None → ⊥
+back_goes met n visit before here there none = outer (slice_get met (suc n)) here (sym (back_suc met n) ∙ none)
+  where
+    inner : (o : Option (Name × ℕ)) → o ≡ Some before → option_and_then {U = Name × ℕ} (λ (b : Name × ℕ). Some (b.0, visit.1)) o ≡ None → ⊥
+    inner None e h = cc
+    inner (Some b) e h = cc
+
+    outer : (o : Option (Name × ℕ)) → o ≡ Some visit → option_and_then {U = Name × ℕ} (before_visit met) o ≡ None → ⊥
+    outer None e h = cc
+    outer (Some v) e h =
+        let same : v ≡ visit = cc in
+        inner (slice_get met visit.1) there (subst (λ (w : Name × ℕ). before_visit met w ≡ None) same h)
+
+pub back-earlier : (met : Visits) (place : ℕ) (v : Name) (before : ℕ) → IsBackwards met → back_of met place ≡ Some (v, before) → before < place
+back-earlier met place v before b h = let s = step_back met place v before h in b place (s.name, before) s.positive s.here
+
+pub goes-back-push : (met : Visits) (place : ℕ) (vs : List Name) (end : ℕ) (v : Name) (before : ℕ) → GoesBack met place vs end → back_of met end ≡ Some (v, before) → GoesBack met place (vs ++ v ∷ []) before
+goes-back-push met place [] end v before g h = (before, ap (back_of met) g ∙ h, refl)
+goes-back-push met place (w ∷ ws) end v before g h = (g.0, g.1, goes-back-push met g.0 ws end v before g.2 h)
+
+module _ (g : ProtectionGraph) (met : Visits) (s : IsSearch g met) (apart : IsDistinct bytes_eq (keys_of met)) (x : Name) (first : slice_get (keys_of met) 0 ≡ Some x) where
+  -- a vertex stands at one place alone
+  one_place : (v : Name) (a b : ℕ) → slice_get (keys_of met) a ≡ Some v → slice_get (keys_of met) b ≡ Some v → a ≡ b
+  one_place v a b p q =
+      let h : position (bytes_eq v) (keys_of met) ≡ Some a = position-at (keys_of met) apart a v p in
+      let k : position (bytes_eq v) (keys_of met) ≡ Some b = position-at (keys_of met) apart b v q in
+      cc
+
+  -- the way from the vertex u at the place
+  pub record WayFrom (place : ℕ) (u : Name) (way : List Name) : Type 0 where
+    pub joined : IsChain g u way x
+    pub once : NoRepeat (u ∷ way)
+    pub earlier : (t : Name) → is_among t (u ∷ way) → (k : ℕ) × (k ≤ place) × (slice_get (keys_of met) k ≡ Some t)
+
+  there : (place : ℕ) (u : Name) (from : ℕ) → slice_get met place ≡ Some (u, from) → IsTrue (has_vertex g u)
+  there place u from h = s.known u (place-known (keys_of met) place u (visit-key met place (u, from) h))
+
+  starts_here : (place : ℕ) (u : Name) → slice_get (keys_of met) place ≡ Some u → (t : Name) → same_name t u ≡ true → (k : ℕ) × (k ≤ place) × (slice_get (keys_of met) k ≡ Some t)
+  starts_here place u h t e = (place, omega arith, h ∙ ap Some (sym (same_bytes t u e)))
+
+  at_first : (place : ℕ) (u : Name) (from : ℕ) → slice_get met place ≡ Some (u, from) → back_of met place ≡ None → place ≡ 0
+  at_first zero u from h none = refl
+  at_first (suc n) u from h none =
+      let m = s.trail (suc n) u from (omega arith) h in
+      absurd (back_goes met n (u, from) m.before h m.there none)
+
+  way_from : (way : List Name) (place : ℕ) (u : Name) (from end : ℕ) → slice_get met place ≡ Some (u, from) → GoesBack met place way end → back_of met end ≡ None → WayFrom place u way
+  way_from [] place u from end here goes none = record {
+    joined = (same, there place u from here);
+    once = (refl, tt);
+    earlier = λ t h. elim (or_cases (same_name t u) false h) [ inl e ↦ starts_here place u (visit-key met place (u, from) here) t e | inr e ↦ absurd (true≢false (sym e)) ];
+  }
+    where
+      zero_is : place ≡ 0
+      zero_is = at_first place u from here (ap (back_of met) goes ∙ none)
+
+      same : u ≡ x
+      same =
+          let key : slice_get (keys_of met) place ≡ Some u = visit-key met place (u, from) here in
+          let start : slice_get (keys_of met) place ≡ Some x = ap (slice_get (keys_of met)) zero_is ∙ first in
+          cc
+  way_from (v ∷ vs) place u from end here goes none = finish (way_from vs goes.0 v step.from end step.there goes.2 none)
+    where
+      step : StepBack met place v goes.0
+      step = step_back met place v goes.0 goes.1
+
+      same_from : goes.0 ≡ from
+      same_from = (some_pair (step.name, goes.0) (u, from) (sym step.here ∙ here)).1
+
+      link : IsTrue (linked g u v)
+      link =
+          let m = s.trail place u from step.positive here in
+          let p : slice_get met from ≡ Some m.before = m.there in
+          let q : slice_get met from ≡ Some (v, step.from) = ap (slice_get met) (sym same_from) ∙ step.there in
+          let e : m.before.0 ≡ v = (some_pair m.before (v, step.from) (sym p ∙ q)).0 in
+          linked_sym g v u (subst (λ t. IsTrue (linked g t u)) e m.joined)
+
+      earlier_before : goes.0 < place
+      earlier_before = back-earlier met place v goes.0 (backwards g met s) goes.1
+
+      finish : WayFrom goes.0 v vs → WayFrom place u (v ∷ vs)
+      finish w = record {
+        joined = (there place u from here, link, w.joined);
+        once = (false_from_ne_true _ (λ h. let e = w.earlier u h in let k : e.0 ≡ place = one_place u e.0 place e.2 (visit-key met place (u, from) here) in omega (arith, e.1, earlier_before)), w.once);
+        earlier = λ t h. elim (or_cases (same_name t u) (list_any (same_name t) (v ∷ vs)) h) [ inl e ↦ starts_here place u (visit-key met place (u, from) here) t e | inr e ↦ later (w.earlier t e) ];
+      }
+        where
+          later : {t : Name} → (k : ℕ) × (k ≤ goes.0) × (slice_get (keys_of met) k ≡ Some t) → (k : ℕ) × (k ≤ place) × (slice_get (keys_of met) k ≡ Some t)
+          later e = (e.0, omega (arith, e.1, earlier_before), e.2)
+
+  -- the way of a holder that the search comes to first
+  pub way-is : (right : Right) (y holder : Name) (place from : ℕ) (way : List Name) → slice_get met place ≡ Some (holder, from) → IsTrue (g.holds holder right y) → IsSearched g right y met place → IsWayBack met place way → IsWay g right x y holder way
+  way-is right y holder place from way here held searched back = record {
+    held = held;
+    joined = (way_from way place holder from back.0 here back.1 back.2).joined;
+    apart = (way_from way place holder from back.0 here back.1 back.2).once;
+    none = λ has. short place way (start has) back;
+  }
+    where
+      start : IsTrue (g.holds x right y) → place ≡ 0
+      start has = go place searched
+        where
+          go : (n : ℕ) → IsSearched g right y met n → n ≡ 0
+          go zero s' = refl
+          go (suc n) s' = let v = key-visit met 0 x first in absurd (both_ways (g.holds x right y) (s'.none 0 x v.0 (omega arith) v.1) has)
+
+      short : (n : ℕ) (way : List Name) → n ≡ 0 → IsWayBack met n way → way ≡ []
+      short n [] e b = refl
+      short n (v ∷ vs) e b = let p = (b.1).1 in let st = step_back met n v (b.1).0 p in absurd (omega (arith, st.positive, e))

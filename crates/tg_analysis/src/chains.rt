@@ -1,0 +1,143 @@
+//! Chains of links from a vertex that holds a right.
+ghost use Rattle.std.specs.Prelude.{◌≡◌, ◌<◌, ◌+◌, ◌∷◌, [], Some, IsTrue, IfOk, OnOk, MatchOption, slice_get, length};
+ghost use Rattle.std.specs.Map.{keys_of};
+ghost use Rattle.tg_graph.specs.Graphs.{has_vertex, WellFormed};
+ghost use Rattle.tg_graph.specs.GraphOf.{graph_of};
+ghost use Rattle.tg_analysis.specs.Sharing.{IsChain, NoRepeat, HeldInIsland};
+ghost use Rattle.tg_analysis.specs.Linked.{AreLinks};
+ghost use Rattle.tg_analysis.specs.Searches.{AreNear, AddsUnmet, AreUnmet, IsBackwards, IsWayBack, IsSearch, GoesRound, IsWay};
+
+use crate::links::Links;
+use crate::met::Met;
+use std::alloc::{AllocError, Global};
+use tg_graph::{Graph, Name, Right};
+
+/// A chain of links from a vertex that holds a right.
+#[derive(Drop)]
+pub struct Chain {
+    /// The vertex that holds the right.
+    pub holder: Name,
+    /// The vertices after it, each linked to the one before.
+    pub links: Vec<Name>,
+}
+
+// Adds the vertex at a position, unless it was met.
+fn add_unmet(
+    graph: &Graph,
+    met: &Met,
+    position: usize,
+    names: &mut Vec<Name>,
+) -> Result<(), AllocError>
+    ensures { OnOk result
+        (AddsUnmet (keys_of graph.now) met.now position names.old.items names.new.items) }
+{
+    match graph.name_at(position) {
+        Some(name) if !met.has(name) => names.push(name)?,
+        _ => {}
+    }
+    Ok(())
+}
+
+// The positions of the neighbours of a vertex.
+fn neighbours<'a>(graph: &Graph, links: &'a Links, vertex: Name) -> &'a [usize]
+    requires links { AreLinks (graph_of graph.now) links.now }
+    requires known { IsTrue (has_vertex (graph_of graph.now) vertex) }
+    ensures { AreNear (graph_of graph.now) vertex result.now }
+{
+    match graph.position(vertex) {
+        Some(position) => links.at(position),
+        None => &[],
+    }
+}
+
+// The neighbours of a vertex that were not met, in name order.
+fn unmet(
+    alloc: Global,
+    graph: &Graph,
+    links: &Links,
+    met: &Met,
+    vertex: Name,
+) -> Result<Vec<Name>, AllocError>
+    requires well_formed { WellFormed (graph_of graph.now) }
+    requires links { AreLinks (graph_of graph.now) links.now }
+    requires known { IsTrue (has_vertex (graph_of graph.now) vertex) }
+    ensures { IfOk result (λ names. AreUnmet (graph_of graph.now) met.now vertex names.items) }
+{
+    let mut names = Vec::new(alloc);
+    let near = neighbours(graph, links, vertex);
+    for position in near {
+        add_unmet(graph, met, *position, &mut names)?;
+    }
+    names.sort_unstable();
+    Ok(names)
+}
+
+// Meets the neighbours of the vertex at a place.
+fn go_round(
+    alloc: Global,
+    graph: &Graph,
+    links: &Links,
+    met: &mut Met,
+    place: usize,
+    vertex: Name,
+) -> Result<(), AllocError>
+    requires well_formed { WellFormed (graph_of graph.now) }
+    requires links { AreLinks (graph_of graph.now) links.now }
+    requires search { IsSearch (graph_of graph.now) met.old }
+    requires here { slice_get (keys_of met.old) place ≡ Some vertex }
+    ensures { OnOk result (GoesRound (graph_of graph.now) vertex met.old met.new) }
+{
+    let names = unmet(alloc, graph, links, met, vertex)?;
+    for name in &names {
+        met.meet(*name, place)?;
+    }
+    Ok(())
+}
+
+// The vertices on the way back from the one at a place to the first.
+fn way_back(alloc: Global, met: &Met, place: usize) -> Result<Vec<Name>, AllocError>
+    requires { IsBackwards met.now }
+    ensures { IfOk result (λ way. IsWayBack met.now place way.items) }
+{
+    let mut way = Vec::new(alloc);
+    let mut at = place;
+    while let Some(step) = met.back(at) {
+        way.push(step.0)?;
+        at = step.1;
+    }
+    Ok(way)
+}
+
+/// A chain of links to `x` from a vertex that holds the right over `y`, if there is one.
+///
+/// It is found breadth first from `x`, neighbours in name order.
+/// The one error is want of memory.
+pub fn chain_to(
+    alloc: Global,
+    graph: &Graph,
+    right: Right,
+    x: Name,
+    y: Name,
+) -> Result<Option<Chain>, AllocError>
+    requires well_formed { WellFormed (graph_of graph.now) }
+    requires known { IsTrue (has_vertex (graph_of graph.now) x) }
+    ensures { IfOk result (λ chain. MatchOption chain
+        (HeldInIsland (graph_of graph.now) right x y → ⊥)
+        (λ chain. IsWay (graph_of graph.now) right x y chain.holder chain.links.items)) }
+{
+    let links = Links::of(alloc, graph)?;
+    let mut met = Met::from(alloc, x)?;
+    let mut place = 0;
+    while let Some(visit) = met.at(place) {
+        let vertex = visit.0;
+        if graph.holds(vertex, right, y) {
+            return Ok(Some(Chain {
+                holder: vertex,
+                links: way_back(alloc, &met, place)?,
+            }));
+        }
+        go_round(alloc, graph, &links, &mut met, place, vertex)?;
+        place += 1;
+    }
+    Ok(None)
+}

@@ -1,0 +1,163 @@
+//! Which vertices of a graph are linked.
+ghost use Rattle.std.specs.Prelude.{◌≡◌, ◌<◌, ◌+◌, ◌++◌, ◌∷◌, [], IfOk, OnOk, length, replicate};
+ghost use Rattle.std.specs.Map.{keys_of};
+ghost use Rattle.tg_graph.specs.GraphOf.{graph_of};
+ghost use Rattle.tg_graph.specs.Rows.{row_number};
+ghost use Rattle.tg_analysis.specs.Linked.{neighbours, linked_end, AreLinks, AddsNeighbour, JoinsNeighbours, LinksUpTo};
+
+use std::alloc::{AllocError, Global};
+use std::marker::Model;
+use tg_graph::{Graph, Right};
+
+// The positions of the vertices that are linked to one vertex.
+#[derive(Drop)]
+struct Neighbours {
+    positions: Vec<usize>,
+}
+
+impl Model for Neighbours {
+    ghost use Rattle.std.specs.Prelude.{List, ℕ};
+
+    ghost Value = { List ℕ };
+
+    ghost view = { λ n. n.positions.items };
+}
+
+impl Neighbours {
+    fn new(alloc: Global) -> Neighbours
+        ensures { result ≡ [] }
+    {
+        Neighbours {
+            positions: Vec::new(alloc),
+        }
+    }
+
+    fn add(&mut self, position: usize) -> Result<(), AllocError>
+        ensures { OnOk result (self.new ≡ self.old ++ position ∷ []) }
+    {
+        self.positions.push(position)?;
+        Ok(())
+    }
+
+    fn as_slice(&self) -> &[usize]
+        ensures { result.now ≡ self.now }
+    {
+        self.positions.as_slice()
+    }
+}
+
+/// For each vertex of a graph, by position, the positions of the vertices that are linked to it.
+///
+/// A neighbour may stand in a list more than once.
+#[derive(Drop)]
+pub struct Links {
+    near: Vec<Neighbours>,
+}
+
+impl Model for Links {
+    ghost use Rattle.tg_analysis.specs.Linked.{NeighbourLists};
+
+    ghost Value = { NeighbourLists };
+
+    ghost view = { λ l. l.near.items };
+}
+
+// The position at the other end of an edge, if its label has take or grant.
+fn linked_end(graph: &Graph, position: usize, place: usize) -> Option<usize>
+    ensures { result ≡ linked_end graph.now position place }
+{
+    let (name, label) = graph.row_at(position, place)?;
+    if label.has(Right::T) || label.has(Right::G) {
+        graph.position(name)
+    } else {
+        None
+    }
+}
+
+impl Links {
+    /// The links of a graph, made in one pass over its edges.
+    ///
+    /// The one error is want of memory.
+    pub fn of(alloc: Global, graph: &Graph) -> Result<Links, AllocError>
+        ensures { IfOk result (λ links. AreLinks (graph_of graph.now) links) }
+    {
+        let mut links = Links::none(alloc, graph.len())?;
+        for position in 0..graph.len() {
+            links.add_row(graph, position)?;
+        }
+        Ok(links)
+    }
+
+    /// How many vertices there are.
+    pub fn len(&self) -> usize
+        ensures { result ≡ length self.now }
+    {
+        self.near.len()
+    }
+
+    /// The positions of the vertices that are linked to the one at a position; none past the end.
+    pub fn at(&self, position: usize) -> &[usize]
+        ensures { result.now ≡ neighbours self.now position }
+    {
+        match self.near.get(position) {
+            Some(row) => row.as_slice(),
+            None => &[],
+        }
+    }
+
+    // No links between this many vertices.
+    fn none(alloc: Global, count: usize) -> Result<Links, AllocError>
+        ensures { IfOk result (λ links. links ≡ replicate count []) }
+    {
+        let mut near = Vec::with_capacity(alloc, count)?;
+        for _ in 0..count {
+            near.push(Neighbours::new(alloc))?;
+        }
+        Ok(Links { near })
+    }
+
+    // Makes one position a neighbour of another.
+    fn add(&mut self, position: usize, neighbour: usize) -> Result<(), AllocError>
+        requires { position < length self.old }
+        ensures { OnOk result (AddsNeighbour self.old self.new position neighbour) }
+    {
+        let row = &mut self.near[position];
+        row.add(neighbour)?;
+        Ok(())
+    }
+
+    // Makes two positions neighbours of each other.
+    fn join(&mut self, a: usize, b: usize) -> Result<(), AllocError>
+        requires first { a < length self.old }
+        requires second { b < length self.old }
+        ensures { OnOk result (JoinsNeighbours self.old self.new a b) }
+    {
+        self.add(a, b)?;
+        self.add(b, a)?;
+        Ok(())
+    }
+
+    // Joins the ends of an edge, if its label has take or grant.
+    fn add_edge(&mut self, graph: &Graph, position: usize, place: usize) -> Result<(), AllocError>
+        requires within { position < length (keys_of graph.now) }
+        requires so_far { LinksUpTo graph.now self.old position place }
+        ensures { OnOk result (LinksUpTo graph.now self.new position (place + 1)) }
+    {
+        if let Some(end) = linked_end(graph, position, place) {
+            self.join(position, end)?;
+        }
+        Ok(())
+    }
+
+    // Joins the ends of each edge out of a vertex whose label has take or grant.
+    fn add_row(&mut self, graph: &Graph, position: usize) -> Result<(), AllocError>
+        requires within { position < length (keys_of graph.now) }
+        requires so_far { LinksUpTo graph.now self.old position 0 }
+        ensures { OnOk result (LinksUpTo graph.now self.new (position + 1) 0) }
+    {
+        for place in 0..graph.row_len(position) {
+            self.add_edge(graph, position, place)?;
+        }
+        Ok(())
+    }
+}
