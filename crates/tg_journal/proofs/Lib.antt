@@ -1,0 +1,4 @@
+pub mod NoteFields
+pub mod NoteShared
+pub mod OwnPlaces
+pub mod Rows

@@ -1,0 +1,5 @@
+pub mod Lists
+pub mod Known
+pub mod Pass
+pub mod Front
+pub mod Answers

@@ -1,0 +1,271 @@
+ghost use Rattle.std.specs.Prelude.{◌≡◌, IfOk, length, slice_get};
+ghost use Rattle.tg_journal.specs.Pass.{fresh};
+
+use crate::{Entry, Front, Journal, JournalFault, Next, Pass, Put};
+use std::alloc::{AllocError, Global};
+use std::process::Abort;
+use std::test::Fail;
+use std::thread;
+
+// Memory runs out for a copy of the record with this number.
+const NO_COPY: u32 = 100;
+
+#[derive(Debug, PartialEq, Eq, Drop)]
+struct Mark {
+    seat: u32,
+    number: u32,
+}
+
+impl Entry for Mark {
+    ghost seat_of = { λ m. m.seat };
+
+    fn seat(&self) -> u32 {
+        self.seat
+    }
+
+    fn copy(&self) -> Result<Mark, AllocError> {
+        if self.number == NO_COPY {
+            return Err(AllocError);
+        }
+        Ok(Mark {
+            seat: self.seat,
+            number: self.number,
+        })
+    }
+
+    ghost use Rattle.std.proofs.Common.{rules};
+
+    ghost same = { Prim.search rules };
+}
+
+fn fill(
+    journal: &Journal<Mark>,
+    pass: Pass<Mark>,
+    alloc: Global,
+) -> Result<(Pass<Mark>, Vec<usize>), AllocError>
+    requires { pass.cells ≡ journal.now }
+    ensures { IfOk result (λ r. r.0.cells ≡ journal.now) }
+{
+    let mut pass = pass;
+    let mut places = Vec::new(alloc);
+    for _ in 0..200u32 {
+        if places.len() >= 100 {
+            break;
+        }
+        let mark = Mark {
+            seat: pass.number(),
+            number: places.len() as u32,
+        };
+        if let Put::Won(place) = journal.put(&mut pass, &mark) {
+            places.push(place)?;
+        }
+    }
+    Ok((pass, places))
+}
+
+fn agree(journal: &Journal<Mark>, one: &Pass<Mark>, two: &Pass<Mark>) -> bool
+    requires { (one.now.cells ≡ journal.now) × (two.now.cells ≡ journal.now) }
+{
+    let mut agreed = true;
+    for place in 0..200 {
+        if journal.at(one, place) != journal.at(two, place) {
+            agreed = false;
+        }
+    }
+    agreed
+}
+
+#[test]
+fn two_passes(rt: HostRuntime) -> Result<(), Fail> {
+    let alloc = rt.alloc();
+    let Ok((journal, mut passes)) = Journal::start(alloc, 200, 2) else {
+        assert!(rt; false);
+        return Ok(());
+    };
+    let (Some(two), Some(one)) = (passes.pop(), passes.pop()) else {
+        assert!(rt; false);
+        return Ok(());
+    };
+    let shared = &journal;
+    let (first, second) = thread::join(
+        &rt,
+        move || -> Result<(Pass<Mark>, Vec<usize>), AllocError>
+            requires { one.cells ≡ shared.now }
+            ensures { IfOk result (λ r. r.0.cells ≡ shared.entry.now) }
+        { fill(shared, one, alloc) },
+        move || -> Result<(Pass<Mark>, Vec<usize>), AllocError>
+            requires { two.cells ≡ shared.now }
+            ensures { IfOk result (λ r. r.0.cells ≡ shared.entry.now) }
+        { fill(shared, two, alloc) },
+    );
+    let (mut one, places) = first?;
+    let (mut two, others) = second?;
+    assert!(rt; places.len() == 100 && others.len() == 100);
+    let front = journal.front(&one)?;
+    assert!(rt; journal.meet(&mut two, &front).is_ok());
+    let front = journal.front(&two)?;
+    assert!(rt; journal.meet(&mut one, &front).is_ok());
+    assert!(rt; one.len() == 200 && two.len() == 200);
+    for place in 0..200 {
+        assert!(rt; places.contains(&place) != others.contains(&place));
+    }
+    assert!(rt; agree(&journal, &one, &two));
+    Ok(())
+}
+
+fn finds(next: Next<'_, Mark>, number: u32) -> bool {
+    match next {
+        Next::Entry(mark) => mark.number == number,
+        _ => false,
+    }
+}
+
+fn filled(
+    rt: &impl Abort,
+    journal: &Journal<Mark>,
+    p: &mut Pass<Mark>,
+    q: &mut Pass<Mark>,
+    s: &mut Pass<Mark>,
+)
+    requires cells { (p.old.cells ≡ journal.now) × (q.old.cells ≡ journal.now) × (s.old.cells ≡ journal.now) }
+    requires numbers { (p.old.number ≡ 1) × (q.old.number ≡ 2) }
+    ensures { (p.new.cells ≡ journal.now) × (q.new.cells ≡ journal.now) × (s.new.cells ≡ journal.now) }
+{
+    let (a, b, c) = (
+        Mark { seat: 1, number: 7 },
+        Mark { seat: 2, number: 8 },
+        Mark { seat: 2, number: 9 },
+    );
+    assert!(rt; matches!(journal.next(s), Next::End));
+    assert!(rt; journal.put(p, &a) == Put::Won(0));
+    assert!(rt; journal.put(q, &b) == Put::Lost(0));
+    assert!(rt; journal.put(q, &b) == Put::Won(1));
+    assert!(rt; journal.put(q, &c) == Put::Full);
+}
+
+fn met(
+    rt: &impl Abort,
+    journal: &Journal<Mark>,
+    p: &mut Pass<Mark>,
+    q: &mut Pass<Mark>,
+) -> Result<(), AllocError>
+    requires { (p.old.cells ≡ journal.now) × (q.old.cells ≡ journal.now) }
+{
+    let front = journal.front(q)?;
+    assert!(rt; front.len() == 2);
+    assert!(rt; journal.meet(p, &front).is_ok());
+    let number = match journal.at(p, 1) {
+        Some(mark) => mark.number,
+        None => 0,
+    };
+    assert!(rt; number == 8);
+    assert!(rt; matches!(journal.next(p), Next::End));
+    Ok(())
+}
+
+fn read(rt: &impl Abort, journal: &Journal<Mark>, s: &mut Pass<Mark>)
+    requires { s.old.cells ≡ journal.now }
+{
+    assert!(rt; finds(journal.next(s), 7));
+    assert!(rt; finds(journal.next(s), 8));
+    assert!(rt; matches!(journal.next(s), Next::End));
+}
+
+#[test]
+fn worked_row(rt: HostRuntime) -> Result<(), Fail> {
+    let alloc = rt.alloc();
+    let Ok((journal, mut passes)) = Journal::start(alloc, 2, 3) else {
+        assert!(rt; false);
+        return Ok(());
+    };
+    let (Some(mut s), Some(mut q), Some(mut p)) = (passes.pop(), passes.pop(), passes.pop()) else {
+        assert!(rt; false);
+        return Ok(());
+    };
+    filled(&rt, &journal, &mut p, &mut q, &mut s);
+    met(&rt, &journal, &mut p, &mut q)?;
+    read(&rt, &journal, &mut s);
+    Ok(())
+}
+
+#[test]
+fn limits(rt: HostRuntime) {
+    let alloc = rt.alloc();
+    for (cells, seats, fault) in [
+        (0, 1, JournalFault::Cells),
+        (4097, 1, JournalFault::Cells),
+        (1, 0, JournalFault::Seats),
+        (1, 65, JournalFault::Seats),
+        (0, 0, JournalFault::Cells),
+    ] {
+        let refused = Journal::<Mark>::start(alloc, cells, seats).err();
+        assert!(rt; refused == Some(fault), "at {cells} and {seats}");
+    }
+    assert!(rt; Journal::<Mark>::start(alloc, 4096, 64).is_ok());
+}
+
+// Where memory is refused once, the second try has it.
+fn started(alloc: Global) -> Result<(Journal<Mark>, Vec<Pass<Mark>>), JournalFault>
+    ensures one { IfOk result (λ r. length r.1.items ≡ 1) }
+    ensures fresh { IfOk result (λ r. slice_get r.1.items 0 ≡ Some (fresh r.0 1)) }
+{
+    match Journal::start(alloc, 2, 1) {
+        Ok(made) => Ok(made),
+        Err(_) => Journal::start(alloc, 2, 1),
+    }
+}
+
+// A put that memory was refused to has put nothing: a later put of another record has its place.
+fn put_after_refusal(rt: &impl Abort, journal: &Journal<Mark>, pass: &mut Pass<Mark>, first: Mark)
+    requires { (pass.old.cells ≡ journal.now) × (pass.old.number ≡ 1) × (first.seat ≡ 1) }
+    ensures { pass.new.cells ≡ journal.now }
+{
+    let other = Mark { seat: 1, number: 8 };
+    let refused = journal.put(pass, &first) == Put::Memory;
+    assert!(rt; pass.len() == if refused { 0 } else { 1 });
+    let place = pass.len();
+    let answer = match journal.put(pass, &other) {
+        Put::Memory => journal.put(pass, &other),
+        answer => answer,
+    };
+    assert!(rt; answer == Put::Won(place));
+}
+
+#[test]
+fn copy_refused(rt: HostRuntime) {
+    let first = Mark {
+        seat: 1,
+        number: NO_COPY,
+    };
+    let Ok((journal, mut passes)) = started(rt.alloc()) else {
+        assert!(rt; false);
+        return;
+    };
+    let Some(mut pass) = passes.pop() else {
+        assert!(rt; false);
+        return;
+    };
+    put_after_refusal(&rt, &journal, &mut pass, first);
+    assert!(rt; pass.len() == 1);
+}
+
+// It passes whichever one request for memory is refused: `rt try --test --fail-alloc N -- refused`, for N from 1 on.
+#[test]
+fn request_refused(rt: HostRuntime) -> Result<(), Fail> {
+    let Ok((journal, mut passes)) = started(rt.alloc()) else {
+        assert!(rt; false);
+        return Ok(());
+    };
+    let Some(mut pass) = passes.pop() else {
+        assert!(rt; false);
+        return Ok(());
+    };
+    put_after_refusal(&rt, &journal, &mut pass, Mark { seat: 1, number: 7 });
+    let seen = pass.len();
+    let front = match journal.front(&pass) {
+        Ok(front) => front,
+        Err(_) => journal.front(&pass)?,
+    };
+    assert!(rt; pass.len() == seen && front.len() == seen);
+    Ok(())
+}
