@@ -1,0 +1,12 @@
+use Rattle.std.proofs.Common.{sym, ap, subst, ◌∙◌, arith, Err}
+use Rattle.std.proofs.lemmas.Bool.Decides.{nat_tests}
+use Rattle.std.proofs.lemmas.List.{length-map}
+use Rattle.std.proofs.lemmas.Result.{err_from_is_err_and}
+use Rattle.tg_store.specs.Worlds.{OpensHall}
+use Rattle.tg_store.proofs.halls.Hall.new.Goals as goal
+
+pub returns-in_err-seats : goal.returns-in_err-seats
+returns-in_err-seats c =
+    let p = err_from_is_err_and c.from_residual-in_err-seats.result c.from_residual-in_err-seats.ensures.1 in
+    let rows = length-map c.args.graph.now (λ e. e.0) in
+    subst (OpensHall c.args.graph.now c.args.cells c.args.seats) (sym (p.1 ∙ ap Err p.2)) (grind (arith, nat_tests, rows, c.len.ensures.value))

@@ -1,0 +1,10 @@
+pub mod StepWords
+pub mod Answers
+pub mod Histories
+pub mod Touches
+pub mod Told
+pub mod Overlays
+pub mod Worlds
+pub mod Seats
+pub mod HallFields
+pub mod Acts

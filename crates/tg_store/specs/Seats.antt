@@ -1,0 +1,44 @@
+-- The fields of a seat, and what is true of them.
+use Rattle.std.specs.Prelude.{◌≡◌, ◌≤◌, List, All, IfSome, take, length, Option, None, Some}
+use Rattle.std.specs.Option.{option_map}
+use Rattle.tg_graph.specs.Rows.{Entries}
+use Rattle.tg_graph.specs.Graphs.{ProtectionGraph}
+use Rattle.tg_graph.specs.GraphOf.{graph_of}
+use Rattle.tg_store.specs.declared.seats.OpenSession.{OpenSession}
+use Rattle.tg_store.specs.declared.seats.SeatState.{SeatState}
+use Rattle.tg_store.specs.declared.records.Record.{Record}
+use Rattle.tg_store.specs.declared.answers.Answered.{Answered}
+use Rattle.tg_store.specs.declared.events.HallFault.{HallFault}
+use Rattle.tg_store.specs.declared.events.HallFault.TheVariants.{Changed, Crowded}
+use Rattle.tg_store.specs.Touches.{IsClear, IsSpoilt, IsOvercrowded}
+use Rattle.tg_store.specs.StepWords.{IsNamedStep}
+use Rattle.tg_store.specs.Answers.{AreAnswers, after_steps}
+use Rattle.tg_store.specs.Histories.{replay}
+use Rattle.tg_store.specs.Overlays.{laid_over}
+use Rattle.tg_store.specs.Worlds.{SeatView}
+
+-- what the world shows of a seat
+abbrev pub seen_seat : SeatState → SeatView
+seen_seat s = record { taken = s.taken; session = option_map (λ o. o.kept.items) s.session }
+
+-- the session stands on the base: its graph is the base with its steps, its replies are answers there
+pub record IsSessionOn (base : Entries) (o : OpenSession) : Type 0 where
+  pub laid : laid_over base o.overlay ≡ after_steps (graph_of base) o.kept.items
+  pub answers : AreAnswers (graph_of base) o.kept.items
+  pub named : All (λ a. IsNamedStep a.step) o.kept.items
+
+-- an open session stands on its seat's graph
+abbrev pub IsConsistent : SeatState → Type 0
+IsConsistent s = IfSome s.session (IsSessionOn s.graph)
+
+-- the seat's graph is the replay of what it has taken in
+pub record Rests (g : ProtectionGraph) (history : List Record) (s : SeatState) : Type 0 where
+  pub within : s.taken ≤ length history
+  pub replayed : graph_of s.graph ≡ replay g (take s.taken history)
+
+-- what keeps a session from resting on a record with these steps as well, if anything does
+abbrev pub Obstructs : ProtectionGraph → List Answered → SeatView → Option HallFault → Type 0
+Obstructs g committed s None = IsClear g committed s.session
+Obstructs g committed s (Some (Changed place name)) = (place ≡ s.taken) × IsSpoilt g committed s.session name
+Obstructs g committed s (Some (Crowded place)) = (place ≡ s.taken) × IsOvercrowded g committed s.session
+Obstructs g committed s _ = ⊥

@@ -1,0 +1,12 @@
+-- Which steps may be staged.
+use Rattle.std.specs.Prelude.{⊤}
+use Rattle.tg_graph.specs.declared.session.Step.{Step}
+use Rattle.tg_graph.specs.declared.session.Step.TheVariants.{Do, Holds, Share}
+use Rattle.tg_graph.specs.Sets.{IsNamed}
+use Rattle.tg_graph.specs.Rules.{rights_of}
+
+-- the rights that a step names are rights
+abbrev pub IsNamedStep : Step → Type 0
+IsNamedStep (Do rule) = IsNamed (rights_of rule)
+IsNamedStep (Holds right x y) = ⊤
+IsNamedStep (Share right x y) = ⊤

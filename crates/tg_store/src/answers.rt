@@ -1,0 +1,60 @@
+//! The steps of a session, each with its reply.
+ghost use Rattle.std.specs.Prelude.{◌≡◌, All};
+ghost use Rattle.tg_store.specs.StepWords.{IsNamedStep};
+
+use std::marker::Model;
+use tg_graph::{Reply, Step};
+
+/// A step and the reply to it.
+#[derive(Clone, Copy, PartialEq, Eq, Debug)]
+pub struct Answered {
+    /// What was asked.
+    pub step: Step,
+    /// What was answered.
+    pub reply: Reply,
+}
+
+impl Answered {
+    /// The step with the reply to it.
+    pub fn new(step: Step, reply: Reply) -> Answered
+        ensures { result ≡ record { step = step; reply = reply } }
+    {
+        Answered { step, reply }
+    }
+}
+
+/// The steps of a session in their order, each with its reply.
+#[derive(Drop)]
+pub struct Steps {
+    kept: Vec<Answered>,
+}
+
+impl Model for Steps {
+    ghost use Rattle.std.specs.Prelude.{List, All};
+    ghost use Rattle.tg_store.specs.declared.answers.Answered.{Answered};
+    ghost use Rattle.tg_store.specs.StepWords.{IsNamedStep};
+
+    ghost Value = { List Answered };
+
+    ghost view = { λ s. s.kept.items };
+
+    ghost invariant = { λ s. All (λ a. IsNamedStep a.step) s.kept.items };
+}
+
+impl Steps {
+    /// The steps in their order.
+    pub fn as_slice(&self) -> &[Answered]
+        ensures value { result.now ≡ self.now }
+        ensures named { All (λ a. IsNamedStep a.step) self.now }
+    {
+        self.kept.as_slice()
+    }
+
+    /// The same steps, of which each names only rights.
+    pub fn from_vec(kept: Vec<Answered>) -> Steps
+        requires { All (λ a. IsNamedStep a.step) kept.items }
+        ensures { result ≡ kept.items }
+    {
+        Steps { kept }
+    }
+}

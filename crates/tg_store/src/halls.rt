@@ -1,0 +1,319 @@
+//! The monitor in one thread.
+ghost use Rattle.std.specs.Prelude.{◌≡◌, ◌+◌, ◌<◌, ◌≤◌, ◌⊎◌, ◌∷◌, ◌++◌, [], ℕ, vec_len, List, All, IfOk, OnOk, OnErr, IfSome, Some, None, MatchOption, length, slice_get, map, replicate};
+ghost use Rattle.std.specs.Option.{option_map, option_copied};
+ghost use Rattle.tg_graph.specs.Graphs.{ProtectionGraph};
+ghost use Rattle.tg_graph.specs.GraphOf.{graph_of};
+ghost use Rattle.tg_store.specs.Answers.{AreAnswers, most_vertices};
+ghost use Rattle.tg_store.specs.Histories.{replay, IsLegal, IsNumbered, AreApart};
+ghost use Rattle.tg_store.specs.Worlds.{fresh_seat, seat_of, seat_in, rests_on, Moves, Happens, Run, IsStageable, OpensHall};
+ghost use Rattle.tg_store.specs.Acts.{is_learned, is_free, MayLearn, Repeats, CatchesUp, Acts, IsStageableAct};
+ghost use Rattle.std.specs.Vec.{vec_capacity};
+ghost use Rattle.tg_store.specs.Seats.{seen_seat, IsConsistent, Rests};
+
+use crate::events::{Event, HallFault, HallReply, StoreFault};
+use crate::records::Record;
+use crate::replays;
+use crate::replays::MOST_VERTICES;
+use crate::seats::SeatState;
+use std::alloc::{AllocError, Global};
+use std::marker::Model;
+use tg_graph::{Act, Graph, Refusal, Reply};
+
+/// How many cells a journal may have.
+pub const MOST_CELLS: usize = 4096;
+
+/// How many seats there may be.
+pub const MOST_SEATS: u32 = 64;
+
+/// A monitor in one thread: a history of committed sessions, and seats that take it in.
+///
+/// A contract sees it as its world.
+#[derive(Drop)]
+pub struct Hall {
+    opening: Graph,
+    cells: usize,
+    records: Vec<Record>,
+    seats: Vec<SeatState>,
+    alloc: Global,
+}
+
+impl Model for Hall {
+    ghost use Rattle.tg_store.specs.Worlds.{World};
+
+    ghost Value = { World };
+
+    ghost use Rattle.tg_store.specs.HallFields.{world_of, IsHall};
+
+    ghost view = { world_of };
+
+    ghost invariant = { IsHall };
+}
+
+// Seats that have taken in nothing.
+fn fresh_seats(alloc: Global, opening: &Graph, count: u32) -> Result<Vec<SeatState>, AllocError>
+    ensures seen { IfOk result (λ seats. map seen_seat seats.items ≡ replicate count fresh_seat) }
+    ensures rests { IfOk result (λ seats. All (Rests (graph_of opening.now) []) seats.items) }
+    ensures consistent { IfOk result (λ seats. All IsConsistent seats.items) }
+{
+    let mut seats = Vec::new(alloc);
+    for made in 0..count {
+        let seat = SeatState::new(alloc, opening)?;
+        seats.push(seat)?;
+    }
+    Ok(seats)
+}
+
+// The place of the seat of a number among so many.
+fn index_of(number: u32, count: usize) -> Option<usize>
+    ensures { MatchOption result ((number ≡ 0) ⊎ (count < number)) (λ i. (i + 1 ≡ number) × (i < count)) }
+{
+    let number = number as usize;
+    if number == 0 || number > count {
+        None
+    } else {
+        Some(number - 1)
+    }
+}
+
+// The number of the seat at which an event happens.
+fn seat_in(event: &Event) -> u32
+    ensures { result ≡ seat_in event.now }
+{
+    match *event {
+        Event::Begin(number) => number,
+        Event::Learn(number) => number,
+        Event::Stage(number, _) => number,
+        Event::Put(number) => number,
+        Event::Abort(number) => number,
+    }
+}
+
+// What an event does at its seat.
+fn event_at(
+    seat: &mut SeatState,
+    cells: usize,
+    records: &mut Vec<Record>,
+    event: &Event,
+) -> HallReply
+    requires stageable { IsStageable event.now }
+    requires consistent { IsConsistent seat.old }
+    requires answers { IfSome (slice_get records.old.items seat.old.taken) (λ r. AreAnswers (graph_of seat.old.graph) r.steps) }
+    requires room { length records.old.items ≤ cells }
+    requires cells { cells ≤ 4096 }
+    requires within { seat.old.taken ≤ length records.old.items }
+    ensures moves { Moves (graph_of seat.old.graph) cells records.old.items (seen_seat seat.old) event.now result (seen_seat seat.new) records.new.items }
+    ensures rests { (g : ProtectionGraph) → Rests g records.old.items seat.old → Rests g records.new.items seat.new }
+    ensures consistent { IsConsistent seat.new }
+{
+    match *event {
+        Event::Begin(_) => seat.begin(),
+        Event::Learn(_) => seat.learn(records.as_slice()),
+        Event::Stage(_, step) => seat.stage(step),
+        Event::Put(number) => seat.put(number, cells, records),
+        Event::Abort(_) => seat.abort(),
+    }
+}
+
+// Whether a reply says that a record was taken in.
+fn is_learned(reply: &HallReply) -> bool
+    ensures { result ≡ is_learned reply.now }
+{
+    match *reply {
+        HallReply::Learned(_) => true,
+        _ => false,
+    }
+}
+
+// Notes a reply, for which there is room.
+fn note(replies: &mut Vec<HallReply>, reply: HallReply)
+    requires { vec_len replies.old < vec_capacity replies.old }
+    ensures items { replies.new.items ≡ replies.old.items ++ reply ∷ [] }
+    ensures len { vec_len replies.new ≡ vec_len replies.old + 1 }
+    ensures capacity { vec_capacity replies.new ≡ vec_capacity replies.old }
+{
+    // the check is told of the types inside a reply by these
+    let _fault: Option<HallFault> = None;
+    let _said: Option<Reply> = None;
+    let _refusal: Option<Refusal> = None;
+    replies.push_reserved(reply);
+}
+
+// The graph after all records.
+fn replayed(opening: &Graph, records: &[Record]) -> Result<Graph, AllocError>
+    ensures { IfOk result (λ graph. graph_of graph ≡ replay (graph_of opening.now) records.now) }
+{
+    let mut graph = opening.copy()?;
+    for record in records {
+        replays::lay_all(&mut graph, record.steps.as_slice())?;
+    }
+    Ok(graph)
+}
+
+impl Hall {
+    /// A hall over a copy of the opening graph, with an empty history of so many cells, and with seats from number 1 on.
+    ///
+    /// Its faults, in this order: the graph has more than 1,024 vertices; the cells are not 1 to 4,096; the seats are
+    /// not 1 to 64; memory was refused.
+    pub fn new(alloc: Global, graph: &Graph, cells: usize, seats: u32) -> Result<Hall, StoreFault>
+        ensures { OpensHall graph.now cells seats result }
+    {
+        if graph.len() > MOST_VERTICES {
+            return Err(StoreFault::TooManyVertices);
+        }
+        if cells == 0 || cells > MOST_CELLS {
+            return Err(StoreFault::Cells);
+        }
+        if seats == 0 || seats > MOST_SEATS {
+            return Err(StoreFault::Seats);
+        }
+        let opening = graph.copy()?;
+        let seats = fresh_seats(alloc, &opening, seats)?;
+        Ok(Hall {
+            opening,
+            cells,
+            records: Vec::new(alloc),
+            seats,
+            alloc,
+        })
+    }
+
+    /// How many records stand in the history.
+    pub fn len(&self) -> usize
+        ensures value { result ≡ length self.now.history }
+        ensures legal { IsLegal (graph_of self.now.opening) self.now.history }
+        ensures numbered { IsNumbered self.now.history }
+        ensures apart { AreApart self.now.history }
+    {
+        self.records.len()
+    }
+
+    /// The record at a place of the history.
+    pub fn at(&self, place: usize) -> Option<&Record>
+        ensures { option_copied result ≡ slice_get self.now.history place }
+    {
+        self.records.get(place)
+    }
+
+    // The seat of a number.
+    fn seat(&self, number: u32) -> Option<&SeatState>
+        ensures seen { option_map (λ s. seen_seat s.now) result ≡ seat_of self.now number }
+        ensures rests { IfSome result (λ s. Rests (graph_of self.now.opening) self.now.history s.now) }
+    {
+        let i = index_of(number, self.seats.len())?;
+        Some(&self.seats[i])
+    }
+
+    /// How many records the seat of a number has taken in.
+    pub fn taken(&self, seat: u32) -> Option<usize>
+        ensures { result ≡ option_map (λ s. s.taken) (seat_of self.now seat) }
+    {
+        let seat = self.seat(seat)?;
+        Some(seat.taken())
+    }
+
+    /// The graph of the seat of a number: the replay of what it has taken in.
+    pub fn graph(&self, seat: u32) -> Option<&Graph>
+        ensures { option_map (λ g. graph_of g.now) result ≡ option_map (rests_on self.now) (seat_of self.now seat) }
+    {
+        let seat = self.seat(seat)?;
+        Some(seat.graph())
+    }
+
+    /// The replay of the whole history.
+    pub fn last(&self) -> Result<Graph, AllocError>
+        ensures { IfOk result (λ graph. graph_of graph ≡ replay (graph_of self.now.opening) self.now.history) }
+    {
+        replayed(&self.opening, self.records.as_slice())
+    }
+
+    // One event.
+    fn happen(&mut self, event: &Event) -> HallReply
+        requires { IsStageable event.now }
+        ensures { Happens self.old event.now result self.new }
+    {
+        match index_of(seat_in(event), self.seats.len()) {
+            None => HallReply::Refused(HallFault::NoSeat),
+            Some(i) => event_at(&mut self.seats[i], self.cells, &mut self.records, event),
+        }
+    }
+
+    /// One event at a seat.
+    ///
+    /// `NoSeat` comes exactly where no seat has the number. What each event answers and leaves is `Happens`.
+    pub fn step(&mut self, event: Event) -> HallReply
+        requires { IsStageable event }
+        ensures { Happens self.old event result self.new }
+    {
+        self.happen(&event)
+    }
+
+    /// Events one after another. An error changes nothing: room for the replies is made first.
+    pub fn run(&mut self, events: &[Event]) -> Result<Vec<HallReply>, AllocError>
+        requires { All IsStageable events.now }
+        ensures run { IfOk result (λ replies. Run self.old events.now replies.items self.new) }
+        ensures legal { OnOk result (IsLegal (graph_of self.new.opening) self.new.history) }
+        ensures err { OnErr result (self.new ≡ self.old) }
+    {
+        let mut replies = Vec::with_capacity(self.alloc, events.len())?;
+        for event in events {
+            let reply = self.happen(event);
+            note(&mut replies, reply);
+        }
+        let _ = self.len();
+        Ok(replies)
+    }
+
+    // An event again and again, for as long as it takes in records.
+    fn repeat(&mut self, event: &Event) -> HallReply
+        requires { MayLearn event.now }
+        ensures { Repeats self.old event.now result self.new }
+    {
+        let mut answer = self.happen(event);
+        while is_learned(&answer) {
+            answer = self.happen(event);
+        }
+        answer
+    }
+
+    // Whether there is such a seat, with no open session.
+    fn is_free(&self, seat: u32) -> bool
+        ensures { result ≡ is_free self.now seat }
+    {
+        match self.seat(seat) {
+            Some(seat) => !seat.is_open(),
+            None => false,
+        }
+    }
+
+    // A seat takes in all that is left, and then opens a session.
+    fn catch_up(&mut self, seat: u32) -> HallReply
+        ensures { CatchesUp self.old seat result self.new }
+    {
+        let told = self.repeat(&Event::Learn(seat));
+        match told {
+            HallReply::Nothing => self.happen(&Event::Begin(seat)),
+            other => other,
+        }
+    }
+
+    /// One act of a seat: to take in all that is left and open a session, to stage a step, to commit, or to give up.
+    ///
+    /// Want of memory ends an act where it stands.
+    pub fn act(&mut self, seat: u32, act: &Act) -> HallReply
+        requires { IsStageableAct act.now }
+        ensures { Acts self.old seat act.now result self.new }
+    {
+        match *act {
+            Act::Begin => {
+                if self.is_free(seat) {
+                    self.catch_up(seat)
+                } else {
+                    self.happen(&Event::Begin(seat))
+                }
+            }
+            Act::Stage(step) => self.happen(&Event::Stage(seat, step)),
+            Act::Commit => self.repeat(&Event::Put(seat)),
+            Act::Abort => self.happen(&Event::Abort(seat)),
+        }
+    }
+}
