@@ -1,0 +1,4 @@
+pub mod Parting
+pub mod Small
+pub mod IslandTests
+pub mod ReportLaws

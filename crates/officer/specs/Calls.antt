@@ -1,0 +1,58 @@
+-- What the words of a command line ask for.
+use Rattle.std.specs.Prelude.{ℕ, List, [], ◌∷◌, bytes_eq, codes, if◌then◌else◌, Option, Some, None}
+use Rattle.std.specs.Option.{option_map}
+use Rattle.officer.specs.declared.words.Command.{Command}
+use Rattle.officer.specs.declared.words.Command.TheVariants as command
+use Rattle.officer.specs.declared.words.Call.{Call}
+use Rattle.officer.specs.declared.words.Call.TheVariants as call
+
+-- a command with its words
+pub data CommandWords : Type 0 where
+  Case : CommandWords
+  Check : CommandWords
+  Apply : CommandWords
+  Islands : CommandWords
+  Share : List ℕ → List ℕ → List ℕ → CommandWords
+  Derive : List ℕ → List ℕ → List ℕ → CommandWords
+
+-- a call with its words
+pub data CallWords : Type 0 where
+  Input : CallWords
+  File : CommandWords → List ℕ → CallWords
+  Files : CommandWords → List ℕ → List ℕ → CallWords
+
+abbrev pub command_words : Command → CommandWords
+command_words command.Case = Case
+command_words command.Check = Check
+command_words command.Apply = Apply
+command_words command.Islands = Islands
+command_words (command.Share right x y) = Share right.now x.now y.now
+command_words (command.Derive right x y) = Derive right.now x.now y.now
+
+abbrev pub call_words : Call → CallWords
+call_words call.Input = Input
+call_words (call.File c graph) = File (command_words c) graph.now
+call_words (call.Files c graph second) = Files (command_words c) graph.now second.now
+
+-- the commands on a graph
+abbrev pub graph_command : List ℕ → Option CommandWords
+graph_command name = if bytes_eq name (codes "check") then Some Check else (if bytes_eq name (codes "islands") then Some Islands else None)
+
+-- the commands on a graph and a second text
+abbrev pub text_command : List ℕ → Option CommandWords
+text_command name = if bytes_eq name (codes "apply") then Some Apply else None
+
+-- the questions to a graph
+abbrev pub question : List ℕ → List ℕ → List ℕ → List ℕ → Option CommandWords
+question name right x y =
+    if bytes_eq name (codes "share") then Some (Share right x y) else (if bytes_eq name (codes "derive") then Some (Derive right x y) else None)
+
+-- the call that the words ask for
+abbrev pub call_of : List (List ℕ) → Option CallWords
+call_of [] = Some Input
+call_of (name ∷ []) = None
+call_of (name ∷ graph ∷ []) = option_map (λ c. File c graph) (graph_command name)
+call_of (name ∷ graph ∷ second ∷ []) = option_map (λ c. Files c graph second) (text_command name)
+call_of (name ∷ graph ∷ right ∷ x ∷ []) = None
+call_of (name ∷ graph ∷ right ∷ x ∷ y ∷ []) = option_map (λ c. File c graph) (question name right x y)
+call_of (name ∷ graph ∷ right ∷ x ∷ y ∷ z ∷ more) = None

@@ -1,0 +1,19 @@
+-- What is fetched from a reader.
+use Rattle.std.specs.Prelude.{◌≡◌, ℕ, ◌+◌, ◌<◌, ◌≤◌, Bool, true, false, List, [], ◌++◌, length, Option, Result, Ok, Err, ⊤}
+use Rattle.std.specs.Io.KnownBytes.{Consumes, IsAtEnd}
+use Rattle.officer.specs.declared.fetch.TheConstants.{MOST_BYTES}
+use Rattle.officer.specs.declared.fetch.FetchFault.{FetchFault}
+use Rattle.officer.specs.declared.fetch.FetchFault.TheVariants.{Unreadable, TooLarge, Memory}
+
+-- One read takes the bytes `piece` from the reader and appends them to what was taken before.
+pub record TakesPiece (left left' : Option (List ℕ)) (taken taken' piece : List ℕ) : Type 0 where
+  pub consumed : Consumes left left' piece
+  pub appended : taken' ≡ taken ++ piece
+
+-- What one read does: it takes a piece, finds the end, or fails.
+abbrev pub TakesIn : Option (List ℕ) → Option (List ℕ) → List ℕ → List ℕ → Result Bool FetchFault → Type 0
+TakesIn left left' taken taken' (Ok false) = (piece : List ℕ) × TakesPiece left left' taken taken' piece × (0 < length piece) × (length taken' ≤ MOST_BYTES)
+TakesIn left left' taken taken' (Ok true) = (taken' ≡ taken) × Consumes left left' [] × IsAtEnd left'
+TakesIn left left' taken taken' (Err TooLarge) = (piece : List ℕ) × Consumes left left' piece × (MOST_BYTES < length taken + length piece)
+TakesIn left left' taken taken' (Err Unreadable) = ⊤
+TakesIn left left' taken taken' (Err Memory) = ⊤

@@ -1,0 +1,6 @@
+pub mod Inputs
+pub mod Faults
+pub mod Calls
+pub mod Reports
+pub mod Outcomes
+pub mod ReportLaws

@@ -1,0 +1,66 @@
+-- What the parts of a report's making bring.
+use Rattle.std.specs.Prelude.{◌≡◌, ℕ, nat_eq, bytes_eq, position, slice_get, map, filter, option_and_then, Bool, true, false, List, ◌++◌, ◌≤◌, length, Option, Some, None, Result, Ok, Err}
+use Rattle.std.specs.List.{flat_map}
+use Rattle.std.specs.Option.{option_eq}
+use Rattle.tg_graph.specs.declared.rules.Refusal.{Refusal}
+use Rattle.tg_graph.specs.declared.session.Reply.TheVariants.{Done, Refused}
+use Rattle.tg_graph.specs.Graphs.{Name, ProtectionGraph, has_vertex}
+use Rattle.tg_graph.specs.GraphOf.{graph_of}
+use Rattle.tg_graph.specs.Rules.{refusal_of, after}
+use Rattle.tg_text.specs.declared.rule_text.RuleLine.{RuleLine}
+use Rattle.officer.specs.declared.outcome.Report.{Report}
+use Rattle.officer.specs.declared.outcome.Halt.{Halt}
+use Rattle.officer.specs.declared.outcome.Halt.TheVariants as halt
+use Rattle.officer.specs.declared.inputs.Question.{Question}
+use Rattle.officer.specs.Reports.{ReportText, Played, reply_line, island_line, Question as Asked}
+
+abbrev pub report_text : Report → ReportText
+report_text report = record { bytes = report.bytes.items; status = report.status }
+
+-- An outcome of a part, its value seen by view: what the part makes, unless there was no memory.
+abbrev pub Brings : {X A : Type 0} → (X → A) → Result X Halt → Result A ReportText → Type 0
+Brings view (Ok x) made = made ≡ Ok (view x)
+Brings view (Err (halt.Refused report)) made = made ≡ Err (report_text report)
+Brings view (Err halt.Memory) made = Unit {0}
+
+-- An outcome of the work on a report: one that is made, of which the fact holds, unless there was no memory.
+abbrev pub Makes : (ReportText → Type 0) → Result Report Halt → Type 0
+Makes P (Ok report) = P (report_text report)
+Makes P (Err (halt.Refused report)) = P (report_text report)
+Makes P (Err halt.Memory) = Unit {0}
+
+abbrev pub question_of : Question → Asked
+question_of q = record { graph = graph_of q.graph; right = q.right; x = q.x; y = q.y }
+
+-- what a question can count on: its names are vertices, and the graph has no more vertices than a text may name
+pub record IsAskable (q : Asked) : Type 0 where
+  pub from : has_vertex q.graph q.x ≡ true
+  pub to : has_vertex q.graph q.y ≡ true
+  pub small : length q.graph.vertices ≤ 1024
+
+-- one rule is carried out or refused, and its reply is added to the text
+abbrev pub PlaysRule : RuleLine → Bool → List ℕ → List ℕ → ProtectionGraph → ProtectionGraph → Type 0
+PlaysRule r true text text' g h = (refusal_of g r.rule ≡ None) × (h ≡ after g r.rule) × (text' ≡ text ++ reply_line r.line Done)
+PlaysRule r false text text' g h = (refusal : Refusal) × (refusal_of g r.rule ≡ Some refusal) × (h ≡ g) × (text' ≡ text ++ reply_line r.line (Refused refusal))
+
+-- what rules do in turn is done: the replies are added to the text, and the graph and the status are those
+pub record HasPlayed (played : Played) (text text' : List ℕ) (end : ProtectionGraph) (status : ℕ) : Type 0 where
+  pub replies : text' ≡ text ++ played.replies
+  pub graph : end ≡ played.end
+  pub verdict : status ≡ played.status
+
+-- the number of a vertex's island, where the vertices have these numbers by position
+abbrev pub number_in : List Name → List ℕ → Name → Option ℕ
+number_in vs numbers v = option_and_then (λ place. slice_get numbers place) (position (bytes_eq v) vs)
+
+-- each name with its number
+abbrev pub numbered : List Name → List ℕ → List Name → List (Name × Option ℕ)
+numbered vs numbers names = map (λ v. (v, number_in vs numbers v)) names
+
+-- the names with that number
+abbrev pub with_number : Option ℕ → List (Name × Option ℕ) → List Name
+with_number number entries = map (λ e. e.0) (filter (λ e. option_eq nat_eq e.1 number) entries)
+
+-- the lines of the islands of names with their numbers
+abbrev pub numbered_text : List (Name × Option ℕ) → List ℕ
+numbered_text entries = flat_map (λ e. island_line e.0 (with_number e.1 entries)) entries

@@ -1,0 +1,207 @@
+-- Reports: the bytes and the status that a command gives for its texts.
+use Rattle.std.specs.Prelude.{◌≡◌, ◌⊎◌, ◌↔◌, IsTrue, filter, ℕ, nat_le, Bool, true, false, ◌&&◌, List, [], ◌∷◌, ◌++◌, length, codes, bytes_eq, decimal, Option, Some, None, Result, Ok, Err, is_ok, ok_or, if◌then◌else◌}
+use Rattle.std.specs.List.{flat_map, before_first, after_first}
+use Rattle.tg_graph.specs.declared.rules.Refusal.{Refusal}
+use Rattle.tg_graph.specs.declared.session.Reply.{Reply}
+use Rattle.tg_graph.specs.declared.session.Reply.TheVariants.{Done, Refused}
+use Rattle.tg_graph.specs.declared.right_sets.Right.{Right}
+use Rattle.tg_graph.specs.declared.rules.Rule.{Rule}
+use Rattle.tg_graph.specs.Names.{name_of}
+use Rattle.tg_graph.specs.Graphs.{Name, same_name, ProtectionGraph, has_vertex}
+use Rattle.tg_graph.specs.RuleLists.{CanShare}
+use Rattle.tg_graph.specs.Rules.{refusal_of, after}
+use Rattle.tg_text.specs.declared.faults.TextKind.{TextKind}
+use Rattle.tg_text.specs.declared.faults.TextKind.TheVariants as kind
+use Rattle.tg_text.specs.declared.rule_text.RuleLine.{RuleLine}
+use Rattle.tg_text.specs.Lines.{lines_of, words_of}
+use Rattle.tg_text.specs.Reading.{◌>>=◌}
+use Rattle.tg_text.specs.Words.{right_of}
+use Rattle.tg_text.specs.GraphText.{graph_text}
+use Rattle.tg_text.specs.RuleText.{rules_text}
+use Rattle.tg_text.specs.Spelling.{reply_words, rule_words}
+use Rattle.tg_text.specs.Canonical.{line_of, canonical_text, in_name_order}
+use Rattle.tg_analysis.specs.Sharing.{InOneIsland}
+use Rattle.tg_analysis.specs.Derivations.{IsDerivation}
+use Rattle.officer.specs.Calls.{CommandWords, Case, Check, Apply, Islands, Share, Derive}
+
+-- a report
+pub record ReportText : Type 0 where
+  pub bytes : List ℕ
+  pub status : ℕ
+
+abbrev pub kind_word : TextKind → List ℕ
+kind_word kind.LineTooLong = codes "line-too-long"
+kind_word kind.BadWord = codes "bad-word"
+kind_word kind.WordCount = codes "word-count"
+kind_word kind.BadNumber = codes "bad-number"
+kind_word kind.BadName = codes "bad-name"
+kind_word kind.BadRights = codes "bad-rights"
+kind_word kind.DuplicateVertex = codes "duplicate-vertex"
+kind_word kind.TooManyVertices = codes "too-many-vertices"
+kind_word kind.UnknownVertex = codes "unknown-vertex"
+kind_word kind.DuplicateEdge = codes "duplicate-edge"
+kind_word kind.TooMany = codes "too-many"
+kind_word kind.NoHeader = codes "no-header"
+
+-- the one line of an input that is refused
+abbrev pub refusal : List (List ℕ) → ReportText
+refusal words = record { bytes = line_of (codes "refused" ∷ words); status = 1 }
+
+-- the fault of a text: which text it is, the line, and what is wrong with it
+abbrev pub text_refusal : List ℕ → ℕ × TextKind → ReportText
+text_refusal text (n, kind) = refusal (text ∷ codes "line" ∷ decimal n ∷ kind_word kind ∷ [])
+
+-- what a text gives, or the report of its first fault
+abbrev pub from_text : {A : Type 0} → List ℕ → Result A (ℕ × TextKind) → Result A ReportText
+from_text text (Ok x) = Ok x
+from_text text (Err fault) = Err (text_refusal text fault)
+
+abbrev pub graph_in : List ℕ → Result ProtectionGraph ReportText
+graph_in bytes = from_text (codes "graph") (graph_text bytes)
+
+abbrev pub rules_in : List ℕ → Result (List RuleLine) ReportText
+rules_in bytes = from_text (codes "rules") (rules_text bytes)
+
+-- the line of a reply, after the number of the rule's own line
+abbrev pub reply_line : ℕ → Reply → List ℕ
+reply_line n reply = line_of (decimal n ∷ reply_words reply)
+
+-- what rules do in turn, up to the first that is refused
+pub record Played : Type 0 where
+  pub replies : List ℕ
+  pub end : ProtectionGraph
+  pub status : ℕ
+
+-- an accepted rule comes first
+abbrev pub onto_played : List ℕ → Played → Played
+onto_played reply rest = record { replies = reply ++ rest.replies; end = rest.end; status = rest.status }
+
+abbrev pub played_first : ProtectionGraph → ℕ → Option Refusal → Played → Played
+played_first g n None rest = onto_played (reply_line n Done) rest
+played_first g n (Some refusal) rest = record { replies = reply_line n (Refused refusal); end = g; status = 1 }
+
+abbrev pub played : ProtectionGraph → List RuleLine → Played
+played g [] = record { replies = []; end = g; status = 0 }
+played g (r ∷ rs) = played_first g r.line (refusal_of g r.rule) (played (after g r.rule) rs)
+
+-- the replies, and the graph as it stands
+abbrev pub played_report : Played → ReportText
+played_report p = record { bytes = p.replies ++ line_of (codes "graph" ∷ []) ++ canonical_text p.end; status = p.status }
+
+abbrev pub check_report : List ℕ → Result ReportText ReportText
+check_report first = do
+  g ← graph_in first
+  Ok (record { bytes = canonical_text g; status = 0 })
+
+abbrev pub apply_report : List ℕ → List ℕ → Result ReportText ReportText
+apply_report first second = do
+  g ← graph_in first
+  rules ← rules_in second
+  Ok (played_report (played g rules))
+
+-- whether these words are one alone
+abbrev pub is_alone : List ℕ → List (List ℕ) → Bool
+is_alone word [] = false
+is_alone word (w ∷ []) = bytes_eq w word
+is_alone word (w ∷ v ∷ vs) = false
+
+-- the line that stands between a graph and rules
+abbrev pub parts_texts : List ℕ → Bool
+parts_texts line = nat_le (length line) 256 && is_alone (codes "rules") (words_of line)
+
+-- the lines, each with a line feed
+abbrev pub text_of : List (List ℕ) → List ℕ
+text_of lines = flat_map (λ line. line ++ 10 ∷ []) lines
+
+-- the lines before the first that stands between a graph and rules
+abbrev pub graph_part : List ℕ → List ℕ
+graph_part input = text_of (before_first parts_texts (lines_of input))
+
+-- the lines after it
+abbrev pub rules_part : List ℕ → List ℕ
+rules_part input = text_of (after_first parts_texts (lines_of input))
+
+-- the right that a word of one letter writes
+abbrev pub right_in : List ℕ → Result Right ReportText
+right_in word = ok_or (right_of word) (refusal (codes "bad-right" ∷ []))
+
+-- a name writes itself
+abbrev pub name_in : List ℕ → Result Name ReportText
+name_in word = if is_ok (name_of word) then Ok word else Err (refusal (codes "bad-name" ∷ []))
+
+-- a name that is a vertex
+abbrev pub vertex_in : ProtectionGraph → Name → Result Name ReportText
+vertex_in g v = if has_vertex g v then Ok v else Err (refusal (codes "unknown" ∷ v ∷ []))
+
+-- whether x can come to have the right over y
+pub record Question : Type 0 where
+  pub graph : ProtectionGraph
+  pub right : Right
+  pub x : Name
+  pub y : Name
+
+-- what is asked of the graph of a text, the words in their order
+abbrev pub question_in : List ℕ → List ℕ → List ℕ → List ℕ → Result Question ReportText
+question_in first right x y = do
+  g ← graph_in first
+  r ← right_in right
+  a ← name_in x
+  b ← name_in y
+  u ← vertex_in g a
+  v ← vertex_in g b
+  Ok (record { graph = g; right = r; x = u; y = v })
+
+-- one line of words
+abbrev pub says : List (List ℕ) → ReportText
+says words = record { bytes = line_of words; status = 0 }
+
+-- the answer to a question: yes exactly where some list of rules gives the right
+abbrev pub IsAnswer : Question → ReportText → Type 0
+IsAnswer q report =
+    (CanShare q.graph q.right q.x q.y × (report ≡ says (codes "yes" ∷ [])))
+    ⊎ ((CanShare q.graph q.right q.x q.y → ⊥) × (report ≡ says (codes "no" ∷ [])))
+
+-- a list of rules as a text of rules
+abbrev pub derivation_report : List Rule → ReportText
+derivation_report rules = record { bytes = line_of (codes "#" ∷ codes "yes" ∷ decimal (length rules) ∷ []) ++ flat_map (λ rule. line_of (rule_words rule)) rules; status = 0 }
+
+-- rules that give the right; no exactly where no list of rules does
+abbrev pub IsDerived : Question → ReportText → Type 0
+IsDerived q report =
+    ((rules : List Rule) × IsDerivation q.graph q.right q.x q.y rules × (report ≡ derivation_report rules))
+    ⊎ ((CanShare q.graph q.right q.x q.y → ⊥) × (report ≡ says (codes "#" ∷ codes "no" ∷ [])))
+
+-- the line of the island whose vertices follow, if v is the least of them
+abbrev pub island_line : Name → List Name → List ℕ
+island_line v [] = []
+island_line v (w ∷ ws) = if same_name v w then w ++ flat_map (λ u. 32 ∷ u) ws ++ 10 ∷ [] else []
+
+-- for each of the names that is the least of its island a line with the names of the island
+abbrev pub islands_text : (Name → Name → Bool) → List Name → List ℕ
+islands_text together vs = flat_map (λ v. island_line v (filter (together v) vs)) vs
+
+-- the test tells which vertices lie in one island
+abbrev pub TellsIslands : ProtectionGraph → (Name → Name → Bool) → Type 0
+TellsIslands g together = (u v : Name) → has_vertex g u ≡ true → has_vertex g v ≡ true → IsTrue (together u v) ↔ InOneIsland g u v
+
+-- a line for each island: its names in name order, and the islands in the order of their least names
+abbrev pub AreIslandLines : ProtectionGraph → ReportText → Type 0
+AreIslandLines g report =
+    (together : Name → Name → Bool) × TellsIslands g together × (report ≡ record { bytes = islands_text together (in_name_order g.vertices); status = 0 })
+
+-- the report of a fault, or one of which the fact holds
+abbrev pub IsFor : {A : Type 0} → (A → ReportText → Type 0) → Result A ReportText → ReportText → Type 0
+IsFor P (Ok a) report = P a report
+IsFor P (Err fault) report = report ≡ fault
+
+abbrev pub Is : ReportText → ReportText → Type 0
+Is expected report = report ≡ expected
+
+-- the report of a command for its texts
+abbrev pub IsReport : CommandWords → List ℕ → List ℕ → ReportText → Type 0
+IsReport Case first second = IsFor Is (apply_report (graph_part first) (rules_part first))
+IsReport Check first second = IsFor Is (check_report first)
+IsReport Apply first second = IsFor Is (apply_report first second)
+IsReport Islands first second = IsFor AreIslandLines (graph_in first)
+IsReport (Share right x y) first second = IsFor IsAnswer (question_in first right x y)
+IsReport (Derive right x y) first second = IsFor IsDerived (question_in first right x y)

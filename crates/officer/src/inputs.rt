@@ -1,0 +1,158 @@
+//! The texts that a report is about.
+ghost use Rattle.std.specs.Prelude.{◌≡◌, ◌≤◌, ◌∷◌, ◌++◌, [], length, codes, true, IfOk, OnOk};
+ghost use Rattle.tg_graph.specs.GraphOf.{graph_of};
+ghost use Rattle.tg_graph.specs.Graphs.{has_vertex};
+ghost use Rattle.tg_text.specs.RuleText.{AreNamedLines};
+ghost use Rattle.officer.specs.Reports.{kind_word, refusal, text_refusal, graph_in, rules_in, right_in, name_in, vertex_in, question_in};
+ghost use Rattle.officer.specs.Outcomes.{Brings, report_text, question_of, IsAskable};
+
+use crate::outcome::{Halt, Report};
+use std::alloc::{AllocError, Global};
+use tg_graph::{Graph, Name, Refusal, Reply, Right};
+use tg_text::{RuleLine, TextFault, TextKind, append_reply, read_graph, read_rules};
+
+// The word for what is wrong with a line.
+fn kind_word(kind: TextKind) -> &'static str
+    ensures { result.now ≡ kind_word kind }
+{
+    match kind {
+        TextKind::LineTooLong => "line-too-long",
+        TextKind::BadWord => "bad-word",
+        TextKind::WordCount => "word-count",
+        TextKind::BadNumber => "bad-number",
+        TextKind::BadName => "bad-name",
+        TextKind::BadRights => "bad-rights",
+        TextKind::DuplicateVertex => "duplicate-vertex",
+        TextKind::TooManyVertices => "too-many-vertices",
+        TextKind::UnknownVertex => "unknown-vertex",
+        TextKind::DuplicateEdge => "duplicate-edge",
+        TextKind::TooMany => "too-many",
+        TextKind::NoHeader => "no-header",
+    }
+}
+
+// The report of a faulty text.
+fn text_refusal(
+    alloc: Global,
+    text: &str,
+    line: usize,
+    kind: TextKind,
+) -> Result<Report, AllocError>
+    ensures { IfOk result (λ report. report_text report ≡ text_refusal text.now (line, kind)) }
+{
+    let word = kind_word(kind);
+    let line = format!(in alloc; "refused {text} line {line} {word}\n")?;
+    Ok(Report {
+        bytes: line.into_bytes(),
+        status: 1,
+    })
+}
+
+// The graph of a text, or the report of its first fault.
+pub(crate) fn graph_in(alloc: Global, text: &[u8]) -> Result<Graph, Halt>
+    ensures made { Brings graph_of result (graph_in text.now) }
+    ensures small { IfOk result (λ graph. length (graph_of graph).vertices ≤ 1024) }
+{
+    match read_graph(alloc, text) {
+        Ok(graph) => Ok(graph),
+        Err(TextFault::At { line, kind }) => {
+            Err(Halt::Refused(text_refusal(alloc, "graph", line, kind)?))
+        }
+        Err(TextFault::Memory) => Err(Halt::Memory),
+    }
+}
+
+// The rules of a text, or the report of its first fault.
+pub(crate) fn rules_in(alloc: Global, text: &[u8]) -> Result<Vec<RuleLine>, Halt>
+    ensures made { Brings (λ rules. rules.items) result (rules_in text.now) }
+    ensures named { IfOk result (λ rules. AreNamedLines rules.items) }
+{
+    match read_rules(alloc, text) {
+        Ok(rules) => Ok(rules),
+        Err(TextFault::At { line, kind }) => {
+            Err(Halt::Refused(text_refusal(alloc, "rules", line, kind)?))
+        }
+        Err(TextFault::Memory) => Err(Halt::Memory),
+    }
+}
+
+/// A question to a graph: whether x can come to have the right over y.
+#[derive(Drop)]
+pub(crate) struct Question {
+    pub graph: Graph,
+    pub right: Right,
+    pub x: Name,
+    pub y: Name,
+}
+
+fn word_refusal(alloc: Global, words: &str) -> Result<Report, AllocError>
+    ensures { IfOk result (λ report. report_text report ≡ record { bytes = codes "refused " ++ words.now ++ 10 ∷ []; status = 1 }) }
+{
+    let line = format!(in alloc; "refused {words}\n")?;
+    Ok(Report {
+        bytes: line.into_bytes(),
+        status: 1,
+    })
+}
+
+fn right_in(alloc: Global, word: &str) -> Result<Right, Halt>
+    ensures { Brings (λ right. right) result (right_in word.now) }
+{
+    let right = match word.as_bytes() {
+        [letter] => Right::from_letter(*letter),
+        _ => None,
+    };
+    match right {
+        Some(right) => Ok(right),
+        None => Err(Halt::Refused(word_refusal(alloc, "bad-right")?)),
+    }
+}
+
+fn name_in(alloc: Global, word: &str) -> Result<Name, Halt>
+    ensures { Brings (λ name. name) result (name_in word.now) }
+{
+    match Name::parse(word.as_bytes()) {
+        Ok(name) => Ok(name),
+        Err(_) => Err(Halt::Refused(word_refusal(alloc, "bad-name")?)),
+    }
+}
+
+fn unknown_refusal(alloc: Global, name: Name) -> Result<Report, AllocError>
+    ensures { IfOk result (λ report. report_text report ≡ refusal (codes "unknown" ∷ name ∷ [])) }
+{
+    let mut bytes = Vec::new(alloc);
+    append_reply(&mut bytes, &Reply::Refused(Refusal::Unknown(name)))?;
+    bytes.push(b'\n')?;
+    Ok(Report { bytes, status: 1 })
+}
+
+fn vertex_in(alloc: Global, graph: &Graph, name: Name) -> Result<Name, Halt>
+    ensures made { Brings (λ vertex. vertex) result (vertex_in (graph_of graph.now) name) }
+    ensures known { OnOk result (has_vertex (graph_of graph.now) name ≡ true) }
+{
+    if graph.knows(name) {
+        Ok(name)
+    } else {
+        Err(Halt::Refused(unknown_refusal(alloc, name)?))
+    }
+}
+
+// The question of a text and words, or the report of the first fault.
+pub(crate) fn question_in(
+    alloc: Global,
+    text: &[u8],
+    right: &str,
+    x: &str,
+    y: &str,
+) -> Result<Question, Halt>
+    ensures made { Brings question_of result (question_in text.now right.now x.now y.now) }
+    ensures askable { IfOk result (λ question. IsAskable (question_of question)) }
+{
+    let graph = graph_in(alloc, text)?;
+    let right = right_in(alloc, right)?;
+    let x = name_in(alloc, x)?;
+    let y = name_in(alloc, y)?;
+    let x = vertex_in(alloc, &graph, x)?;
+    let y = vertex_in(alloc, &graph, y)?;
+    Ok(Question { graph, right, x, y })
+}

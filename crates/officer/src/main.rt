@@ -1,0 +1,36 @@
+//! The officer: reports on protection graphs, from texts to texts.
+#![tactic(auto)]
+
+pub mod call;
+pub mod deliver;
+pub mod fault;
+pub mod fetch;
+mod inputs;
+mod island_lines;
+pub mod laws;
+#[cfg(test)]
+mod limit_tests;
+mod lines;
+pub mod outcome;
+mod parts;
+mod playing;
+pub mod report;
+mod sharing;
+#[cfg(test)]
+mod tests;
+pub mod words;
+
+use call::run;
+use fault::fault_line;
+use std::process::ExitCode;
+
+fn main(rt: HostRuntime) -> ExitCode {
+    match run(&rt) {
+        Ok(status) => ExitCode::from(status),
+        Err(cause) => {
+            let (line, status) = fault_line(cause);
+            let _ = rt.eprintln(line);
+            ExitCode::from(status)
+        }
+    }
+}

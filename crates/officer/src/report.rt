@@ -1,0 +1,79 @@
+//! Reports on protection graphs.
+ghost use Rattle.std.specs.Prelude.{◌≡◌, IfOk};
+ghost use Rattle.officer.specs.Calls.{command_words};
+ghost use Rattle.officer.specs.Reports.{check_report, apply_report, graph_in, IsReport, IsFor, AreIslandLines, graph_part, rules_part};
+ghost use Rattle.officer.specs.Outcomes.{Brings, Makes, report_text};
+
+use crate::inputs::{graph_in, rules_in};
+use crate::island_lines::islands_report;
+use crate::outcome::{Halt, Report};
+use crate::parts::parts_of;
+use crate::playing::play;
+use crate::sharing::{derive, share};
+use crate::words::Command;
+use std::alloc::{AllocError, Global};
+use tg_text::write_graph;
+
+fn check(alloc: Global, first: &[u8]) -> Result<Report, Halt>
+    ensures { Brings report_text result (check_report first.now) }
+{
+    let graph = graph_in(alloc, first)?;
+    Ok(Report {
+        bytes: write_graph(alloc, &graph)?,
+        status: 0,
+    })
+}
+
+fn islands_of(alloc: Global, first: &[u8]) -> Result<Report, Halt>
+    ensures { Makes (IsFor AreIslandLines (graph_in first.now)) result }
+{
+    let graph = graph_in(alloc, first)?;
+    let report = islands_report(alloc, &graph)?;
+    Ok(report)
+}
+
+fn apply(alloc: Global, first: &[u8], second: &[u8]) -> Result<Report, Halt>
+    ensures { Brings report_text result (apply_report first.now second.now) }
+{
+    let mut graph = graph_in(alloc, first)?;
+    let rules = rules_in(alloc, second)?;
+    let mut bytes = Vec::new(alloc);
+    let status = play(&mut bytes, &mut graph, &rules)?;
+    bytes.extend_from_slice(b"graph\n")?;
+    bytes.extend_from_slice(&write_graph(alloc, &graph)?)?;
+    Ok(Report { bytes, status })
+}
+
+fn case(alloc: Global, input: &[u8]) -> Result<Report, Halt>
+    ensures { Brings report_text result (apply_report (graph_part input.now) (rules_part input.now)) }
+{
+    let (first, second) = parts_of(input);
+    apply(alloc, first, second)
+}
+
+/// The report of a command for its texts. A command of one text leaves the second aside.
+///
+/// An error means that there was no memory. Until there is a command that starts threads, the allocator is all
+/// that it needs of the runtime.
+pub fn report(
+    alloc: Global,
+    command: &Command,
+    first: &[u8],
+    second: &[u8],
+) -> Result<Report, AllocError>
+    ensures { IfOk result (λ report. IsReport (command_words command.now) first.now second.now (report_text report)) }
+{
+    let made = match *command {
+        Command::Case => case(alloc, first),
+        Command::Check => check(alloc, first),
+        Command::Apply => apply(alloc, first, second),
+        Command::Islands => islands_of(alloc, first),
+        Command::Share { right, x, y } => share(alloc, first, right, x, y),
+        Command::Derive { right, x, y } => derive(alloc, first, right, x, y),
+    };
+    match made {
+        Ok(report) => Ok(report),
+        Err(Halt::Refused(report)) => Ok(report),
+        Err(Halt::Memory) => Err(AllocError),
+    }
+}

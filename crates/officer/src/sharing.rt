@@ -1,0 +1,111 @@
+//! Questions about sharing.
+ghost use Rattle.std.specs.Prelude.{◌≡◌, ◌++◌, IfOk, OnOk, codes};
+ghost use Rattle.std.specs.List.{flat_map};
+ghost use Rattle.tg_text.specs.Canonical.{line_of};
+ghost use Rattle.tg_text.specs.Spelling.{rule_words};
+ghost use Rattle.officer.specs.Reports.{question_in, IsFor, IsAnswer, IsDerived, derivation_report};
+ghost use Rattle.officer.specs.Outcomes.{Makes, report_text, question_of, IsAskable};
+
+use crate::inputs::{Question, question_in};
+use crate::outcome::{Halt, Report};
+use std::alloc::{AllocError, Global};
+use tg_analysis::{AskFault, can_share, derivation};
+use tg_graph::Rule;
+use tg_text::{append_number, append_rule};
+
+// The line of bytes as a report.
+fn line(alloc: Global, words: &[u8]) -> Result<Report, AllocError>
+    ensures { IfOk result (λ report. report_text report ≡ record { bytes = words.now; status = 0 }) }
+{
+    Ok(Report {
+        bytes: Vec::from_slice(alloc, words)?,
+        status: 0,
+    })
+}
+
+fn answer(alloc: Global, question: &Question) -> Result<Report, AllocError>
+    requires { IsAskable (question_of question.now) }
+    ensures { IfOk result (λ report. IsAnswer (question_of question.now) (report_text report)) }
+{
+    match can_share(
+        alloc,
+        &question.graph,
+        question.right,
+        question.x,
+        question.y,
+    ) {
+        Ok(true) => line(alloc, b"yes\n"),
+        Ok(false) => line(alloc, b"no\n"),
+        Err(AskFault::Memory) => Err(AllocError),
+        Err(_) => unreachable!(),
+    }
+}
+
+/// The report of a question: yes or no.
+pub(crate) fn share(
+    alloc: Global,
+    first: &[u8],
+    right: &str,
+    x: &str,
+    y: &str,
+) -> Result<Report, Halt>
+    ensures { Makes (IsFor IsAnswer (question_in first.now right.now x.now y.now)) result }
+{
+    let question = question_in(alloc, first, right, x, y)?;
+    let report = answer(alloc, &question)?;
+    Ok(report)
+}
+
+// Appends the lines of rules.
+fn append_rules(text: &mut Vec<u8>, rules: &[Rule]) -> Result<(), AllocError>
+    ensures { OnOk result (text.new.items ≡ text.old.items ++ flat_map (λ rule. line_of (rule_words rule)) rules.now) }
+{
+    for rule in rules {
+        append_rule(text, rule)?;
+        text.push(b'\n')?;
+    }
+    Ok(())
+}
+
+fn rules_report(alloc: Global, rules: &[Rule]) -> Result<Report, AllocError>
+    ensures { IfOk result (λ report. report_text report ≡ derivation_report rules.now) }
+{
+    let mut bytes = Vec::from_slice(alloc, b"# yes ")?;
+    append_number(&mut bytes, rules.len())?;
+    bytes.push(b'\n')?;
+    append_rules(&mut bytes, rules)?;
+    Ok(Report { bytes, status: 0 })
+}
+
+fn derived(alloc: Global, question: &Question) -> Result<Report, AllocError>
+    requires { IsAskable (question_of question.now) }
+    ensures { IfOk result (λ report. IsDerived (question_of question.now) (report_text report)) }
+{
+    match derivation(
+        alloc,
+        &question.graph,
+        question.right,
+        question.x,
+        question.y,
+    ) {
+        Ok(Some(rules)) => rules_report(alloc, &rules),
+        Ok(None) => line(alloc, b"# no\n"),
+        Err(AskFault::Memory) => Err(AllocError),
+        Err(_) => unreachable!(),
+    }
+}
+
+/// The report of a question: rules that give the right.
+pub(crate) fn derive(
+    alloc: Global,
+    first: &[u8],
+    right: &str,
+    x: &str,
+    y: &str,
+) -> Result<Report, Halt>
+    ensures { Makes (IsFor IsDerived (question_in first.now right.now x.now y.now)) result }
+{
+    let question = question_in(alloc, first, right, x, y)?;
+    let report = derived(alloc, &question)?;
+    Ok(report)
+}

@@ -1,0 +1,82 @@
+//! What the command line asks for.
+ghost use Rattle.std.specs.Prelude.{◌≡◌, map};
+ghost use Rattle.std.specs.Option.{option_map};
+ghost use Rattle.officer.specs.Calls.{call_of, call_words, command_words, graph_command, text_command, question};
+
+/// A report to make, with the words of the command line as they were given.
+#[derive(Clone, Copy, PartialEq, Eq, Debug)]
+pub enum Command<'a> {
+    /// A graph and rules in one text, and what the rules lead to.
+    Case,
+    /// The canonical text of a graph.
+    Check,
+    /// What rules lead to.
+    Apply,
+    /// The islands of a graph.
+    Islands,
+    /// Whether x can come to have the right over y.
+    Share {
+        right: &'a str,
+        x: &'a str,
+        y: &'a str,
+    },
+    /// Rules that give x the right over y.
+    Derive {
+        right: &'a str,
+        x: &'a str,
+        y: &'a str,
+    },
+}
+
+/// Where the texts of a command come from.
+#[derive(Clone, Copy, PartialEq, Eq, Debug)]
+pub enum Call<'a> {
+    /// The one text stands on standard input, and the command is `Case`.
+    Input,
+    /// The graph stands in a file.
+    File(Command<'a>, &'a str),
+    /// The graph and a second text stand in files.
+    Files(Command<'a>, &'a str, &'a str),
+}
+
+fn graph_command(name: &str) -> Option<Command<'static>>
+    ensures { option_map command_words result ≡ graph_command name.now }
+{
+    match name {
+        "check" => Some(Command::Check),
+        "islands" => Some(Command::Islands),
+        _ => None,
+    }
+}
+
+fn text_command(name: &str) -> Option<Command<'static>>
+    ensures { option_map command_words result ≡ text_command name.now }
+{
+    match name {
+        "apply" => Some(Command::Apply),
+        _ => None,
+    }
+}
+
+fn question<'a>(name: &str, right: &'a str, x: &'a str, y: &'a str) -> Option<Command<'a>>
+    ensures { option_map command_words result ≡ question name.now right.now x.now y.now }
+{
+    match name {
+        "share" => Some(Command::Share { right, x, y }),
+        "derive" => Some(Command::Derive { right, x, y }),
+        _ => None,
+    }
+}
+
+/// The call that the words of a command line, its own name left out, ask for.
+pub fn read_words<'a>(words: &[&'a str]) -> Option<Call<'a>>
+    ensures { option_map call_words result ≡ call_of (map (λ word. word.now) words.now) }
+{
+    match words {
+        [] => Some(Call::Input),
+        [name, graph] => Some(Call::File(graph_command(name)?, graph)),
+        [name, graph, second] => Some(Call::Files(text_command(name)?, graph, second)),
+        [name, graph, right, x, y] => Some(Call::File(question(name, right, x, y)?, graph)),
+        _ => None,
+    }
+}
