@@ -2,3 +2,5 @@ pub mod Parting
 pub mod Small
 pub mod IslandTests
 pub mod ReportLaws
+pub mod ActLemmas
+pub mod ScriptLemmas

@@ -12,7 +12,8 @@ use Rattle.tg_graph.specs.Graphs.{ProtectionGraph}
 use Rattle.tg_text.specs.Reading.{◌>>=◌, after_lines}
 use Rattle.tg_text.specs.GraphText.{graph_text, graph_item, empty_graph}
 use Rattle.tg_text.specs.RuleText.{rules_text, rule_item}
-use Rattle.officer.specs.Reports.{text_of, parts_texts, graph_part, rules_part, apply_report, from_text, graph_in, rules_in, played, played_report}
+use Rattle.officer.specs.Readings.{from_text, graph_in, rules_in}
+use Rattle.officer.specs.Reports.{text_of, parts_texts, graph_part, rules_part, apply_report, played, played_report}
 
 -- no line feed is among the bytes
 abbrev pub is_line : List ℕ → Bool

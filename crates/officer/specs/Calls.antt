@@ -14,6 +14,7 @@ pub data CommandWords : Type 0 where
   Islands : CommandWords
   Share : List ℕ → List ℕ → List ℕ → CommandWords
   Derive : List ℕ → List ℕ → List ℕ → CommandWords
+  Run : CommandWords
 
 -- a call with its words
 pub data CallWords : Type 0 where
@@ -28,6 +29,7 @@ command_words command.Apply = Apply
 command_words command.Islands = Islands
 command_words (command.Share right x y) = Share right.now x.now y.now
 command_words (command.Derive right x y) = Derive right.now x.now y.now
+command_words command.Run = Run
 
 abbrev pub call_words : Call → CallWords
 call_words call.Input = Input
@@ -40,7 +42,7 @@ graph_command name = if bytes_eq name (codes "check") then Some Check else (if b
 
 -- the commands on a graph and a second text
 abbrev pub text_command : List ℕ → Option CommandWords
-text_command name = if bytes_eq name (codes "apply") then Some Apply else None
+text_command name = if bytes_eq name (codes "apply") then Some Apply else (if bytes_eq name (codes "run") then Some Run else None)
 
 -- the questions to a graph
 abbrev pub question : List ℕ → List ℕ → List ℕ → List ℕ → Option CommandWords

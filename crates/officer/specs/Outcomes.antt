@@ -1,5 +1,5 @@
 -- What the parts of a report's making bring.
-use Rattle.std.specs.Prelude.{◌≡◌, ℕ, nat_eq, bytes_eq, position, slice_get, map, filter, option_and_then, Bool, true, false, List, ◌++◌, ◌≤◌, length, Option, Some, None, Result, Ok, Err}
+use Rattle.std.specs.Prelude.{◌≡◌, ⊤, All, ◌<◌, ℕ, nat_eq, bytes_eq, position, slice_get, map, filter, option_and_then, Bool, true, false, List, ◌++◌, ◌≤◌, length, Option, Some, None, Result, Ok, Err}
 use Rattle.std.specs.List.{flat_map}
 use Rattle.std.specs.Option.{option_eq}
 use Rattle.tg_graph.specs.declared.rules.Refusal.{Refusal}
@@ -8,11 +8,21 @@ use Rattle.tg_graph.specs.Graphs.{Name, ProtectionGraph, has_vertex}
 use Rattle.tg_graph.specs.GraphOf.{graph_of}
 use Rattle.tg_graph.specs.Rules.{refusal_of, after}
 use Rattle.tg_text.specs.declared.rule_text.RuleLine.{RuleLine}
+use Rattle.tg_text.specs.declared.script_text.ScriptLine.{ScriptLine}
+use Rattle.tg_text.specs.ScriptText.{ScriptOf}
+use Rattle.tg_store.specs.declared.events.HallFault.{HallFault}
+use Rattle.tg_store.specs.declared.events.HallFault.TheVariants as hall
+use Rattle.tg_store.specs.declared.events.HallReply.{HallReply}
+use Rattle.tg_store.specs.declared.events.HallReply.TheVariants as reply
+use Rattle.tg_store.specs.Worlds.{World, most_cells, most_seats}
+use Rattle.tg_store.specs.Acts.{IsStageableAct}
 use Rattle.officer.specs.declared.outcome.Report.{Report}
 use Rattle.officer.specs.declared.outcome.Halt.{Halt}
 use Rattle.officer.specs.declared.outcome.Halt.TheVariants as halt
 use Rattle.officer.specs.declared.inputs.Question.{Question}
-use Rattle.officer.specs.Reports.{ReportText, Played, reply_line, island_line, Question as Asked}
+use Rattle.officer.specs.Readings.{ReportText, Question as Asked}
+use Rattle.officer.specs.Reports.{Played, reply_line, island_line}
+use Rattle.officer.specs.Runs.{IsOutcome}
 
 abbrev pub report_text : Report → ReportText
 report_text report = record { bytes = report.bytes.items; status = report.status }
@@ -64,3 +74,36 @@ with_number number entries = map (λ e. e.0) (filter (λ e. option_eq nat_eq e.1
 -- the lines of the islands of names with their numbers
 abbrev pub numbered_text : List (Name × Option ℕ) → List ℕ
 numbered_text entries = flat_map (λ e. island_line e.0 (with_number e.1 entries)) entries
+
+-- an act may be refused so, and it is told, or there was no memory
+abbrev pub MayBeToldFault : HallFault → Type 0
+MayBeToldFault hall.NoSeat = ⊥
+MayBeToldFault _ = ⊤
+
+-- an act may end so
+abbrev pub MayBeTold : HallReply → Type 0
+MayBeTold (reply.Learned place) = ⊥
+MayBeTold reply.Nothing = ⊥
+MayBeTold (reply.Refused fault) = MayBeToldFault fault
+MayBeTold _ = ⊤
+
+-- an event of a seat that is there, whose step names only rights
+pub record IsPlayable (seats : ℕ) (event : ScriptLine) : Type 0 where
+  pub seat : 0 < event.seat
+  pub there : event.seat ≤ seats
+  pub act : IsStageableAct event.act
+
+-- a script that a hall can play
+pub record IsPlayableScript (script : ScriptOf) : Type 0 where
+  pub some_cells : 0 < script.cells
+  pub cells : script.cells ≤ most_cells
+  pub some_seats : 0 < script.seats
+  pub seats : script.seats ≤ most_seats
+  pub events : All (IsPlayable script.seats) script.lines
+
+-- an event is carried out, and the line of its outcome is added to the text; the hall has as many seats as before
+pub record PlaysOn (w : World) (event : ScriptLine) (text text' : List ℕ) (v : World) : Type 0 where
+  pub line : List ℕ
+  pub outcome : IsOutcome w event line v
+  pub added : text' ≡ text ++ line
+  pub seats : length v.seats ≡ length w.seats

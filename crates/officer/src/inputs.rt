@@ -3,13 +3,16 @@ ghost use Rattle.std.specs.Prelude.{◌≡◌, ◌≤◌, ◌∷◌, ◌++◌, [
 ghost use Rattle.tg_graph.specs.GraphOf.{graph_of};
 ghost use Rattle.tg_graph.specs.Graphs.{has_vertex};
 ghost use Rattle.tg_text.specs.RuleText.{AreNamedLines};
-ghost use Rattle.officer.specs.Reports.{kind_word, refusal, text_refusal, graph_in, rules_in, right_in, name_in, vertex_in, question_in};
-ghost use Rattle.officer.specs.Outcomes.{Brings, report_text, question_of, IsAskable};
+ghost use Rattle.tg_text.specs.ScriptText.{script_of};
+ghost use Rattle.officer.specs.Readings.{kind_word, refusal, text_refusal, graph_in, rules_in, script_in, right_in, name_in, vertex_in, question_in};
+ghost use Rattle.officer.specs.Outcomes.{Brings, report_text, question_of, IsAskable, IsPlayableScript};
 
 use crate::outcome::{Halt, Report};
 use std::alloc::{AllocError, Global};
 use tg_graph::{Graph, Name, Refusal, Reply, Right};
-use tg_text::{RuleLine, TextFault, TextKind, append_reply, read_graph, read_rules};
+use tg_text::{
+    RuleLine, Script, TextFault, TextKind, append_reply, read_graph, read_rules, read_script,
+};
 
 // The word for what is wrong with a line.
 fn kind_word(kind: TextKind) -> &'static str
@@ -71,6 +74,20 @@ pub(crate) fn rules_in(alloc: Global, text: &[u8]) -> Result<Vec<RuleLine>, Halt
         Ok(rules) => Ok(rules),
         Err(TextFault::At { line, kind }) => {
             Err(Halt::Refused(text_refusal(alloc, "rules", line, kind)?))
+        }
+        Err(TextFault::Memory) => Err(Halt::Memory),
+    }
+}
+
+// The script of a text, or the report of its first fault.
+pub(crate) fn script_in(alloc: Global, text: &[u8]) -> Result<Script, Halt>
+    ensures made { Brings script_of result (script_in text.now) }
+    ensures playable { IfOk result (λ script. IsPlayableScript (script_of script)) }
+{
+    match read_script(alloc, text) {
+        Ok(script) => Ok(script),
+        Err(TextFault::At { line, kind }) => {
+            Err(Halt::Refused(text_refusal(alloc, "script", line, kind)?))
         }
         Err(TextFault::Memory) => Err(Halt::Memory),
     }

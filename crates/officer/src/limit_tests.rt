@@ -104,3 +104,60 @@ fn most_rules(rt: HostRuntime) -> Result<(), Fail> {
     )?;
     Ok(())
 }
+
+#[test]
+fn most_events(rt: HostRuntime) -> Result<(), Fail> {
+    let mut script = Vec::from_slice(rt.alloc(), b"seats 1\ncells 1\n")?;
+    let events = repeated(rt.alloc(), b"1 begin\n", 65537)?;
+    script.extend_from_slice(&events)?;
+    reports(
+        &rt,
+        Command::Run,
+        b"",
+        &script,
+        b"refused script line 65539 too-many\n",
+        1,
+    )?;
+    Ok(())
+}
+
+// The last lines of a report.
+fn ends_with<R: Abort>(rt: &R, report: &[u8], wanted: &[u8]) {
+    assert!(rt; report.ends_with(wanted));
+}
+
+#[test]
+fn most_cells(rt: HostRuntime) -> Result<(), Fail> {
+    let mut script = Vec::from_slice(rt.alloc(), b"seats 1\ncells 4096\n")?;
+    let events = repeated(rt.alloc(), b"1 begin\n1 commit\n", 4097)?;
+    script.extend_from_slice(&events)?;
+    let made = report(rt.alloc(), &Command::Run, b"", &script)?;
+    ends_with(
+        &rt,
+        &made.bytes,
+        b"\n8194 1 done 4095\n8195 1 done\n8196 1 refused journal-full\ngraph\n",
+    );
+    assert!(rt; made.status == 0);
+    Ok(())
+}
+
+// The lines of the vertices of a full graph, in name order: p first, and v0 to v1022 after it.
+#[test]
+fn a_crowded_session(rt: HostRuntime) -> Result<(), Fail> {
+    let graph = vertices(rt.alloc(), 1023)?;
+    let made = report(
+        rt.alloc(),
+        &Command::Run,
+        graph.as_bytes(),
+        b"seats 2\ncells 8\n1 begin\n2 begin\n1 create v0 p -\n2 create v1 q -\n2 create v1 s -\n1 commit\n2 commit\n",
+    )?;
+    assert!(rt; made.status == 0);
+    assert!(rt;
+        made.bytes.starts_with(
+            b"3 1 done\n4 2 done\n5 1 done\n6 2 done\n7 2 refused full\n8 1 done 0\n9 2 refused crowded 0\ngraph\nvertex p\nvertex v0\nvertex v1\nvertex v10\n"
+        )
+    );
+    let lines = made.bytes.iter().filter(|byte| **byte == b'\n').count();
+    assert!(rt; lines == 8 + 1024);
+    Ok(())
+}

@@ -12,9 +12,13 @@ pub mod laws;
 mod limit_tests;
 mod lines;
 pub mod outcome;
+mod outcome_lines;
 mod parts;
 mod playing;
 pub mod report;
+#[cfg(test)]
+mod run_tests;
+mod running;
 mod sharing;
 #[cfg(test)]
 mod tests;

@@ -1,7 +1,8 @@
 //! Reports on protection graphs.
 ghost use Rattle.std.specs.Prelude.{◌≡◌, IfOk};
 ghost use Rattle.officer.specs.Calls.{command_words};
-ghost use Rattle.officer.specs.Reports.{check_report, apply_report, graph_in, IsReport, IsFor, AreIslandLines, graph_part, rules_part};
+ghost use Rattle.officer.specs.Readings.{graph_in};
+ghost use Rattle.officer.specs.Reports.{check_report, apply_report, IsReport, IsFor, AreIslandLines, graph_part, rules_part};
 ghost use Rattle.officer.specs.Outcomes.{Brings, Makes, report_text};
 
 use crate::inputs::{graph_in, rules_in};
@@ -9,6 +10,7 @@ use crate::island_lines::islands_report;
 use crate::outcome::{Halt, Report};
 use crate::parts::parts_of;
 use crate::playing::play;
+use crate::running::run;
 use crate::sharing::{derive, share};
 use crate::words::Command;
 use std::alloc::{AllocError, Global};
@@ -70,6 +72,7 @@ pub fn report(
         Command::Islands => islands_of(alloc, first),
         Command::Share { right, x, y } => share(alloc, first, right, x, y),
         Command::Derive { right, x, y } => derive(alloc, first, right, x, y),
+        Command::Run => run(alloc, first, second),
     };
     match made {
         Ok(report) => Ok(report),

@@ -3,7 +3,8 @@ ghost use Rattle.std.specs.Prelude.{◌≡◌, ◌++◌, IfOk, OnOk, codes};
 ghost use Rattle.std.specs.List.{flat_map};
 ghost use Rattle.tg_text.specs.Canonical.{line_of};
 ghost use Rattle.tg_text.specs.Spelling.{rule_words};
-ghost use Rattle.officer.specs.Reports.{question_in, IsFor, IsAnswer, IsDerived, derivation_report};
+ghost use Rattle.officer.specs.Readings.{question_in};
+ghost use Rattle.officer.specs.Reports.{IsFor, IsAnswer, IsDerived, derivation_report};
 ghost use Rattle.officer.specs.Outcomes.{Makes, report_text, question_of, IsAskable};
 
 use crate::inputs::{Question, question_in};

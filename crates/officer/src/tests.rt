@@ -121,6 +121,7 @@ fn calls(rt: HostRuntime) {
     assert!(rt; read_words(&[]) == Some(Call::Input));
     assert!(rt; read_words(&["check", "G"]) == Some(Call::File(Command::Check, "G")));
     assert!(rt; read_words(&["apply", "G", "R"]) == Some(Call::Files(Command::Apply, "G", "R")));
+    assert!(rt; read_words(&["run", "G", "S"]) == Some(Call::Files(Command::Run, "G", "S")));
     let (right, x, y) = ("r", "a", "c");
     assert!(rt;
         read_words(&["share", "G", "r", "a", "c"])
@@ -144,7 +145,7 @@ fn text(alloc: Global, lines: &str) -> Result<Vec<u8>, Fail> {
     Ok(bytes)
 }
 
-fn reports<R: Abort + AllocGlobal>(
+pub(crate) fn reports<R: Abort + AllocGlobal>(
     rt: &R,
     command: Command,
     first: &str,
@@ -546,6 +547,18 @@ fn not_to_be_shared(rt: HostRuntime) -> Result<(), Fail> {
 
 #[test]
 fn two_links(rt: HostRuntime) -> Result<(), Fail> {
+    reports(
+        &rt,
+        Command::Share {
+            right: "r",
+            x: "a",
+            y: "d",
+        },
+        "vertex a/vertex b/vertex c/vertex d/edge a b t/edge c b t/edge c d r/",
+        "",
+        "yes/",
+        0,
+    )?;
     reports(
         &rt,
         Command::Derive {

@@ -26,6 +26,8 @@ pub enum Command<'a> {
         x: &'a str,
         y: &'a str,
     },
+    /// What a script leads to.
+    Run,
 }
 
 /// Where the texts of a command come from.
@@ -54,6 +56,7 @@ fn text_command(name: &str) -> Option<Command<'static>>
 {
     match name {
         "apply" => Some(Command::Apply),
+        "run" => Some(Command::Run),
         _ => None,
     }
 }

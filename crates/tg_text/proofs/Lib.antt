@@ -12,3 +12,4 @@ pub mod PlainWords
 pub mod RightsBack
 pub mod RuleBack
 pub mod GraphBack
+pub mod ScriptNumbers

@@ -1,5 +1,5 @@
 -- The text of a script.
-use Rattle.std.specs.Prelude.{⊤, All, ℕ, ◌+◌, List, [], ◌∷◌, length, codes, Result, Ok, Err, if◌then◌else◌}
+use Rattle.std.specs.Prelude.{⊤, All, ℕ, ◌+◌, ◌<◌, ◌≤◌, List, [], ◌∷◌, length, codes, Result, Ok, Err, if◌then◌else◌}
 use Rattle.tg_graph.specs.declared.right_sets.Right.{Right}
 use Rattle.tg_graph.specs.declared.session.Step.TheVariants.{Do, Holds, Share}
 use Rattle.tg_graph.specs.declared.session.Act.{Act}
@@ -103,3 +103,13 @@ IsNamedAct Abort = ⊤
 
 abbrev pub AreNamedEvents : List ScriptLine → Type 0
 AreNamedEvents lines = All (λ line. IsNamedAct line.act) lines
+
+-- a number from 1 to the limit
+abbrev pub IsCount : ℕ → ℕ → Type 0
+IsCount limit n = (0 < n) × (n ≤ limit)
+
+-- there are 1 to 64 seats and 1 to 4,096 cells, and each event is of one of the seats
+pub record IsWithinLimits (script : ScriptOf) : Type 0 where
+  pub seats : IsCount 64 script.seats
+  pub cells : IsCount 4096 script.cells
+  pub events : All (λ event. IsCount script.seats event.seat) script.lines

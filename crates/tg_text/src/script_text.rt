@@ -3,7 +3,7 @@ ghost use Rattle.std.specs.Prelude.{◌≡◌, Ok, IfOk, OnOk};
 ghost use Rattle.tg_text.specs.Lines.{words_of};
 ghost use Rattle.tg_text.specs.Words.{Word};
 ghost use Rattle.tg_text.specs.Reading.{Makes, Reads, after_line, with_item};
-ghost use Rattle.tg_text.specs.ScriptText.{right_and_names, act_alone, act_of_words, seated, event_of_words, event_item, header_number, script_item, script_text, script_of, IsNamedAct, AreNamedEvents};
+ghost use Rattle.tg_text.specs.ScriptText.{right_and_names, act_alone, act_of_words, seated, event_of_words, event_item, header_number, script_item, script_text, script_of, IsNamedAct, AreNamedEvents, IsWithinLimits};
 
 use crate::faults::{LineFault, TextFault, TextKind};
 use crate::lines::{content, cut_line, cut_word};
@@ -241,6 +241,7 @@ fn add_line(
 pub fn read_script(alloc: Global, text: &[u8]) -> Result<Script, TextFault>
     ensures value { Reads script_of result (script_text text.now) }
     ensures named { IfOk result (λ script. AreNamedEvents script.lines.items) }
+    ensures within { IfOk result (λ script. IsWithinLimits (script_of script)) }
 {
     let mut header = Header::Nothing;
     let mut lines = Vec::new(alloc);

@@ -2,7 +2,8 @@ use Rattle.std.proofs.Common.{◌≡◌, ℕ, List, ap, ◌∙◌}
 use Rattle.std.specs.Map.{keys_of}
 use Rattle.tg_graph.specs.GraphOf.{graph_of}
 use Rattle.tg_text.specs.Canonical.{in_name_order}
-use Rattle.officer.specs.Reports.{ReportText, islands_text}
+use Rattle.officer.specs.Readings.{ReportText}
+use Rattle.officer.specs.Reports.{islands_text}
 use Rattle.officer.specs.Outcomes.{numbered, numbered_text}
 use Rattle.officer.proofs.IslandTests.{have_one_number, numbered_text_is, tells_islands}
 use Rattle.officer.proofs.island_lines.islands_report.Goals as goal

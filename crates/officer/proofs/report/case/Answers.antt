@@ -1,5 +1,5 @@
 use Rattle.std.proofs.Common.{Result, subst}
-use Rattle.officer.specs.Reports.{ReportText}
+use Rattle.officer.specs.Readings.{ReportText}
 use Rattle.officer.specs.Outcomes.{Brings, report_text}
 use Rattle.officer.proofs.Parting.{report_by_lines}
 use Rattle.officer.proofs.report.case.Goals as goal

@@ -1,0 +1,20 @@
+use Rattle.std.proofs.Common.{refl}
+use Rattle.officer.specs.Runs.{outcome_line}
+use Rattle.officer.proofs.ActLemmas.{acts_keep, acts_told}
+use Rattle.officer.proofs.running.play_event.Goals as goal
+
+pub append_line-requires : goal.append_line-requires
+append_line-requires c =
+    let event = c.args.event.now in
+    acts_told c.args.hall.now c.act-answer.new.self event.seat event.act c.act-answer.result c.requires.seat c.requires.there c.act-answer.ensures
+
+pub returns : goal.returns
+returns c =
+    let event = c.args.event.now in
+    let done = c.act-answer in
+    record {
+      line = outcome_line event done.result;
+      outcome = record { answer = done.result; act = done.ensures; told = c.in_ok-append_line.ensures.told; written = refl };
+      added = c.in_ok-append_line.ensures.appended;
+      seats = (acts_keep c.args.hall.now done.new.self event.seat event.act done.result done.ensures).seats;
+    }

@@ -1,0 +1,85 @@
+-- What the texts and the words of a command give, or the report of the first fault.
+use Rattle.std.specs.Prelude.{ℕ, List, [], ◌∷◌, codes, decimal, Result, Ok, Err, is_ok, ok_or, if◌then◌else◌}
+use Rattle.tg_graph.specs.declared.right_sets.Right.{Right}
+use Rattle.tg_graph.specs.Names.{name_of}
+use Rattle.tg_graph.specs.Graphs.{Name, ProtectionGraph, has_vertex}
+use Rattle.tg_text.specs.declared.faults.TextKind.{TextKind}
+use Rattle.tg_text.specs.declared.faults.TextKind.TheVariants as kind
+use Rattle.tg_text.specs.declared.rule_text.RuleLine.{RuleLine}
+use Rattle.tg_text.specs.Reading.{◌>>=◌}
+use Rattle.tg_text.specs.Words.{right_of}
+use Rattle.tg_text.specs.GraphText.{graph_text}
+use Rattle.tg_text.specs.RuleText.{rules_text}
+use Rattle.tg_text.specs.ScriptText.{ScriptOf, script_text}
+use Rattle.tg_text.specs.Canonical.{line_of}
+
+-- a report
+pub record ReportText : Type 0 where
+  pub bytes : List ℕ
+  pub status : ℕ
+
+abbrev pub kind_word : TextKind → List ℕ
+kind_word kind.LineTooLong = codes "line-too-long"
+kind_word kind.BadWord = codes "bad-word"
+kind_word kind.WordCount = codes "word-count"
+kind_word kind.BadNumber = codes "bad-number"
+kind_word kind.BadName = codes "bad-name"
+kind_word kind.BadRights = codes "bad-rights"
+kind_word kind.DuplicateVertex = codes "duplicate-vertex"
+kind_word kind.TooManyVertices = codes "too-many-vertices"
+kind_word kind.UnknownVertex = codes "unknown-vertex"
+kind_word kind.DuplicateEdge = codes "duplicate-edge"
+kind_word kind.TooMany = codes "too-many"
+kind_word kind.NoHeader = codes "no-header"
+
+-- the one line of an input that is refused
+abbrev pub refusal : List (List ℕ) → ReportText
+refusal words = record { bytes = line_of (codes "refused" ∷ words); status = 1 }
+
+-- the fault of a text: which text it is, the line, and what is wrong with it
+abbrev pub text_refusal : List ℕ → ℕ × TextKind → ReportText
+text_refusal text (n, kind) = refusal (text ∷ codes "line" ∷ decimal n ∷ kind_word kind ∷ [])
+
+-- what a text gives, or the report of its first fault
+abbrev pub from_text : {A : Type 0} → List ℕ → Result A (ℕ × TextKind) → Result A ReportText
+from_text text (Ok x) = Ok x
+from_text text (Err fault) = Err (text_refusal text fault)
+
+abbrev pub graph_in : List ℕ → Result ProtectionGraph ReportText
+graph_in bytes = from_text (codes "graph") (graph_text bytes)
+
+abbrev pub rules_in : List ℕ → Result (List RuleLine) ReportText
+rules_in bytes = from_text (codes "rules") (rules_text bytes)
+
+abbrev pub script_in : List ℕ → Result ScriptOf ReportText
+script_in bytes = from_text (codes "script") (script_text bytes)
+
+-- the right that a word of one letter writes
+abbrev pub right_in : List ℕ → Result Right ReportText
+right_in word = ok_or (right_of word) (refusal (codes "bad-right" ∷ []))
+
+-- a name writes itself
+abbrev pub name_in : List ℕ → Result Name ReportText
+name_in word = if is_ok (name_of word) then Ok word else Err (refusal (codes "bad-name" ∷ []))
+
+-- a name that is a vertex
+abbrev pub vertex_in : ProtectionGraph → Name → Result Name ReportText
+vertex_in g v = if has_vertex g v then Ok v else Err (refusal (codes "unknown" ∷ v ∷ []))
+
+-- whether x can come to have the right over y
+pub record Question : Type 0 where
+  pub graph : ProtectionGraph
+  pub right : Right
+  pub x : Name
+  pub y : Name
+
+-- what is asked of the graph of a text, the words in their order
+abbrev pub question_in : List ℕ → List ℕ → List ℕ → List ℕ → Result Question ReportText
+question_in first right x y = do
+  g ← graph_in first
+  r ← right_in right
+  a ← name_in x
+  b ← name_in y
+  u ← vertex_in g a
+  v ← vertex_in g b
+  Ok (record { graph = g; right = r; x = u; y = v })
