@@ -1,6 +1,9 @@
 //! What the program does for its command line.
-ghost use Rattle.std.specs.Prelude.{◌≡◌};
+ghost use Rattle.std.specs.Prelude.{◌≡◌, IfOk, Some, map, string_bytes};
 ghost use Rattle.officer.specs.Faults.{cause_of_fetch};
+ghost use Rattle.officer.specs.Calls.{call_words, call_of, CallWords};
+ghost use Rattle.officer.specs.Reports.{GivesReport, IsStatus};
+ghost use Rattle.officer.specs.Outcomes.{report_text};
 
 use crate::deliver::deliver;
 use crate::fault::Cause;
@@ -8,6 +11,7 @@ use crate::fetch::{FetchFault, fetch};
 use crate::outcome::Report;
 use crate::report::report;
 use crate::words::{Call, Command, read_words};
+use std::alloc::{AllocError, Global};
 use std::fs::File;
 use std::io::{Error, ErrorKind, Read};
 use std::rt::{Env, Files};
@@ -55,7 +59,9 @@ fn bytes_of_file<R: Files + AllocGlobal>(
 }
 
 // The report that a call asks for.
-fn answer<R: Input + Files + AllocGlobal>(rt: &R, call: &Call) -> Result<Report, Cause> {
+fn answer<R: Input + Files + AllocGlobal>(rt: &R, call: &Call) -> Result<Report, Cause>
+    ensures { IfOk result (λ report. GivesReport (call_words call.now) (report_text report)) }
+{
     let (command, first, second) = match *call {
         Call::Input => (
             Command::Case,
@@ -85,12 +91,22 @@ fn given_words<R: Env + AllocGlobal>(rt: &R) -> io::Result<Vec<String>> {
     Ok(words)
 }
 
-fn answer_words<R: Input + Files + AllocGlobal>(rt: &R, words: &[String]) -> Result<Report, Cause> {
-    let Ok(words) = words
-        .iter()
-        .map(|word| word.as_str())
-        .collect::<Vec<&str>>(rt.alloc())
-    else {
+// The words as slices.
+fn slices<'a>(alloc: Global, words: &'a [String]) -> Result<Vec<&'a str>, AllocError>
+    ensures { IfOk result (λ slices. map (λ word. word.now) slices.items ≡ map string_bytes words.now) }
+{
+    let mut slices = Vec::with_capacity(alloc, words.len())?;
+    for word in words {
+        slices.push(word.as_str())?;
+    }
+    Ok(slices)
+}
+
+// The report that words ask for.
+fn answer_words<R: Input + Files + AllocGlobal>(rt: &R, words: &[String]) -> Result<Report, Cause>
+    ensures { IfOk result (λ report. (call : CallWords) × (call_of (map string_bytes words.now) ≡ Some call) × GivesReport call (report_text report)) }
+{
+    let Ok(words) = slices(rt.alloc(), words) else {
         return Err(Cause::Memory);
     };
     match read_words(&words) {
@@ -100,7 +116,9 @@ fn answer_words<R: Input + Files + AllocGlobal>(rt: &R, words: &[String]) -> Res
 }
 
 /// Prints the report that the command line asks for. It answers the status of the report.
-pub fn run<R: Env + Input + Files + Print + AllocGlobal>(rt: &R) -> Result<u8, Cause> {
+pub fn run<R: Env + Input + Files + Print + AllocGlobal>(rt: &R) -> Result<u8, Cause>
+    ensures { IfOk result IsStatus }
+{
     let words = match given_words(rt) {
         Ok(words) => words,
         Err(error) => return Err(cause_of_error(error, Cause::Words)),
