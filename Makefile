@@ -1,25 +1,41 @@
-# make demo    proves and builds the program, and runs it on the file service of examples/
-# make test    the merge gate: every proof from nothing, the wrong bodies, the tests, the program
-# make man     the manual page
-# make bench   time and peak memory of each command on heavy inputs
+# make demo       proves and builds the program, and shows it on the file service of examples/
+# make examples   compares what each example prints with what is stored beside it
+# make test       the merge gate: every proof from nothing, the wrong bodies, the tests, the program;
+#                 some 25 minutes on four cores
+# make man        the manual page
+# make bench      time and peak memory of each command on heavy inputs
 
 OFFICER = crates/officer/out/officer
+FILES = examples/file_service
+GRAPH = $(FILES).graph
 
-.PHONY: build demo test man bench
+.PHONY: build demo examples test man bench
 
 build:
-	@echo "Proving and building officer and the crates below it: some fifteen minutes from nothing, seconds after that."
+	@echo "Proving and building officer and the crates below it: about ten minutes on four cores from nothing, seconds after that."
 	@log=$$(mktemp); (cd crates/officer && rt run < stdin) > $$log 2>&1 || { tail -n 20 $$log; rm -f $$log; exit 1; }; rm -f $$log
 
+show = echo "== officer $(1)"; $(OFFICER) $(1)
+
 demo: build
-	@echo "== officer < examples/file_service.case"
-	@$(OFFICER) < examples/file_service.case
-	@echo "== officer islands examples/file_service.graph"
-	@$(OFFICER) islands examples/file_service.graph
-	@echo "== officer share examples/file_service.graph r client payroll"
-	@$(OFFICER) share examples/file_service.graph r client payroll
-	@echo "== officer derive examples/file_service.graph r client payroll"
-	@$(OFFICER) derive examples/file_service.graph r client payroll
+	@$(call show,< $(FILES).case)
+	@$(call show,islands $(GRAPH))
+	@$(call show,share $(GRAPH) r client payroll)
+	@$(call show,derive $(GRAPH) r client payroll)
+	@$(call show,apply $(GRAPH) $(FILES).derive.out)
+	@$(call show,run $(GRAPH) $(FILES).script)
+
+examples: build
+	@$(OFFICER) < $(FILES).case | diff - $(FILES).case.out
+	@$(OFFICER) apply $(GRAPH) $(FILES).rules | diff - $(FILES).case.out
+	@$(OFFICER) apply $(GRAPH) $(FILES).refused.rules | diff - $(FILES).refused.out
+	@$(OFFICER) check $(GRAPH) | diff - $(FILES).check.out
+	@$(OFFICER) islands $(GRAPH) | diff - $(FILES).islands.out
+	@$(OFFICER) share $(GRAPH) r client payroll | diff - $(FILES).share.out
+	@$(OFFICER) derive $(GRAPH) r client payroll | diff - $(FILES).derive.out
+	@$(OFFICER) derive $(GRAPH) t service clerk | diff - $(FILES).helpers.out
+	@$(OFFICER) run $(GRAPH) $(FILES).script | diff - $(FILES).script.out
+	@echo "Each example prints what is stored beside it."
 
 test:
 	@rt ci
