@@ -4,11 +4,13 @@
 bench.py PROGRAM [--only WORD] [--rounds N]. A time is the best of the rounds. Run it before and after a change.
 """
 import argparse
+import ctypes
 import os
 import random
 import subprocess
 import sys
 import tempfile
+import time
 
 
 def vertices(count):
@@ -71,24 +73,24 @@ def workloads():
     yield "share dense", dense(1024), None, ["share", "r", "v0", "v1023"]
     yield "derive a chain of 1,022 links", chain(1024), None, ["derive", "r", "v0", "v1023"]
     for seats in (1, 16, 64):
-        yield f"run {seats} seats, 4,096 commits", sparse(1024, 4096), script(seats, 4096, 1024), ["run"]
+        yield f"run, 4,096 commits by {seats} seat{'s' * (seats > 1)}", sparse(1024, 4096), script(seats, 4096, 1024), ["run"]
 
 
-# Runs in a small process of its own, so that the peak is the program's and not this script's.
-ONE_RUN = """
-import os, resource, subprocess, sys, time
-begun = time.perf_counter()
-done = subprocess.run(sys.argv[2:], stdin=open(sys.argv[1]), stdout=subprocess.DEVNULL)
-seconds = time.perf_counter() - begun
-print(seconds, done.returncode, resource.getrusage(resource.RUSAGE_CHILDREN).ru_maxrss / 1024)
-"""
+# The shell leaves the program to this process and ends; only then does the program begin. A process's peak counts
+# the process that it was started from as well, and a shell is small.
+START = 'exec 3<&0; { read -r _ <&3; exec "$@" < "$0" > /dev/null 3<&-; } &'
+ADOPT_ORPHANS = 36
 
 
 def measured(argv, given):
     """Seconds, status, and peak memory in MiB of one run."""
-    out = subprocess.run([sys.executable, "-c", ONE_RUN, given] + argv, capture_output=True, text=True, check=True).stdout
-    seconds, status, peak = out.split()
-    return float(seconds), int(status), float(peak)
+    gate, hold = os.pipe()
+    subprocess.run(["sh", "-c", START, given] + argv, stdin=gate, check=True)
+    os.close(gate)
+    begun = time.perf_counter()
+    os.close(hold)
+    _, status, used = os.wait4(-1, 0)
+    return time.perf_counter() - begun, os.waitstatus_to_exitcode(status), used.ru_maxrss / 1024
 
 
 def main():
@@ -98,6 +100,7 @@ def main():
     options.add_argument("--rounds", type=int, default=3)
     given = options.parse_args()
     program = os.path.abspath(given.program)
+    ctypes.CDLL(None).prctl(ADOPT_ORPHANS, 1)
     for title, first, second, words in workloads():
         if given.only not in title:
             continue
