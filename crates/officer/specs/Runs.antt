@@ -12,7 +12,7 @@ use Rattle.tg_store.specs.declared.events.HallFault.{HallFault}
 use Rattle.tg_store.specs.declared.events.HallFault.TheVariants.{NoSeat, AlreadyOpen, NotOpen, Changed, Crowded, JournalFull, Memory}
 use Rattle.tg_store.specs.declared.events.HallReply.{HallReply}
 use Rattle.tg_store.specs.declared.events.HallReply.TheVariants.{Done, Learned, Nothing, Said, Put, Refused}
-use Rattle.tg_store.specs.Histories.{replay}
+use Rattle.tg_store.specs.Histories.{replay, IsLegal}
 use Rattle.tg_store.specs.Worlds.{World, opened}
 use Rattle.tg_store.specs.Acts.{Acts}
 use Rattle.officer.specs.Readings.{ReportText, graph_in, script_in}
@@ -52,13 +52,14 @@ abbrev pub Plays : World → List ScriptLine → List ℕ → World → Type 0
 Plays w [] text v = (text ≡ []) × (v ≡ w)
 Plays w (event ∷ events) text v = (mid : World) × (line : List ℕ) × (rest : List ℕ) × IsOutcome w event line mid × Plays mid events rest v × (text ≡ line ++ rest)
 
--- a script was played on a hall over the graph: the outcomes, and the replay of all records
+-- A script was played on a hall over the graph: the outcomes, and the replay of all records. Each of these is true: its replies are those of the graph at its place.
 pub record IsPlayed (g : ProtectionGraph) (script : ScriptOf) (report : ReportText) : Type 0 where
   pub opening : Entries
   pub end : World
   pub outcomes : List ℕ
   pub opens : graph_of opening ≡ g
   pub plays : Plays (opened opening script.cells script.seats) script.lines outcomes end
+  pub legal : IsLegal g end.history
   pub says : report ≡ record { bytes = outcomes ++ line_of (codes "graph" ∷ []) ++ canonical_text (replay g end.history); status = 0 }
 
 -- a graph, and a script that is played on a hall over it

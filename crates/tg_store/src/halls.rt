@@ -219,9 +219,10 @@ impl Hall {
         Some(seat.graph())
     }
 
-    /// The replay of the whole history.
+    /// The replay of the whole history, which is legal.
     pub fn last(&self) -> Result<Graph, AllocError>
-        ensures { IfOk result (λ graph. graph_of graph ≡ replay (graph_of self.now.opening) self.now.history) }
+        ensures graph { IfOk result (λ graph. graph_of graph ≡ replay (graph_of self.now.opening) self.now.history) }
+        ensures legal { IsLegal (graph_of self.now.opening) self.now.history }
     {
         replayed(&self.opening, self.records.as_slice())
     }

@@ -1,7 +1,7 @@
 use Rattle.std.proofs.Common.{refl, ap, subst, ◌∙◌, ◌++◌}
 use Rattle.tg_graph.specs.GraphOf.{graph_of}
 use Rattle.tg_text.specs.Canonical.{canonical_text}
-use Rattle.tg_store.specs.Histories.{replay}
+use Rattle.tg_store.specs.Histories.{replay, IsLegal}
 use Rattle.officer.specs.Readings.{ReportText}
 use Rattle.officer.specs.Runs.{Plays}
 use Rattle.officer.proofs.ScriptLemmas.{plays_keep}
@@ -15,7 +15,7 @@ returns c =
     let events = c.args.script.now.lines.items in
     let plays = subst (λ es. Plays start es outcomes end) c.deref.ensures.value c.in_ok-bytes.ensures in
     let opening = plays_keep start end events outcomes plays ∙ ap (λ w. w.opening) c.in_ok-hall.ensures in
-    let graph = c.in_ok-last.ensures ∙ ap (λ rows. replay (graph_of rows) end.history) opening in
+    let graph = c.in_ok-last.ensures.graph ∙ ap (λ rows. replay (graph_of rows) end.history) opening in
     let text = c.deref-2.ensures.value ∙ c.in_ok-write_graph.ensures ∙ ap canonical_text graph in
     record {
       opening = c.args.graph.now;
@@ -23,5 +23,6 @@ returns c =
       outcomes = outcomes;
       opens = refl;
       plays = subst (λ w. Plays w events outcomes end) c.in_ok-hall.ensures plays;
+      legal = subst (λ rows. IsLegal (graph_of rows) end.history) opening c.in_ok-last.ensures.legal;
       says = ap (λ bytes. record { bytes = bytes; status = 0 }) (c.in_ok-extend_from_slice-2.ensures.items ∙ (λ i. c.in_ok-extend_from_slice.ensures.items i ++ text i));
     }
