@@ -97,6 +97,50 @@ fn refused_acts(rt: HostRuntime) -> Result<(), Fail> {
 }
 
 #[test]
+fn a_refused_step_is_touched(rt: HostRuntime) -> Result<(), Fail> {
+    runs(
+        &rt,
+        "vertex a/vertex b/vertex c/vertex d/edge a b t/edge b c r/",
+        "seats 3/cells 8/1 begin/2 begin/3 begin/1 take a b c r/2 create d n g/3 remove d n g/1 commit/2 commit/3 commit/",
+        "3 1 done/4 2 done/5 3 done/6 1 done/7 2 done/8 3 refused unknown n/9 1 done 0/10 2 done 1/11 3 refused changed 1 d/graph/vertex a/vertex b/vertex c/vertex d/vertex n/edge a b t/edge a c r/edge b c r/edge d n g/",
+    )?;
+    Ok(())
+}
+
+#[test]
+fn sharing_rests_on_every_name(rt: HostRuntime) -> Result<(), Fail> {
+    runs(
+        &rt,
+        "vertex a/vertex b/vertex c/edge a b t/edge b c r/",
+        "seats 2/cells 8/1 begin/1 share w a c/2 begin/2 create b n -/2 commit/1 commit/",
+        "3 1 done/4 1 no/5 2 done/6 2 done/7 2 done 0/8 1 refused changed 0 b/graph/vertex a/vertex b/vertex c/vertex n/edge a b t/edge b c r/",
+    )?;
+    Ok(())
+}
+
+#[test]
+fn sharing_beside_an_empty_session(rt: HostRuntime) -> Result<(), Fail> {
+    runs(
+        &rt,
+        "vertex a/vertex b/vertex c/edge a b t/edge b c r/",
+        "seats 2/cells 8/1 begin/1 share w a c/2 begin/2 commit/1 commit/",
+        "3 1 done/4 1 no/5 2 done/6 2 done 0/7 1 done 1/graph/vertex a/vertex b/vertex c/edge a b t/edge b c r/",
+    )?;
+    Ok(())
+}
+
+#[test]
+fn a_session_left_open(rt: HostRuntime) -> Result<(), Fail> {
+    runs(
+        &rt,
+        "vertex a/",
+        "seats 1/cells 1/1 begin/1 create a b tg/",
+        "3 1 done/4 1 done/graph/vertex a/",
+    )?;
+    Ok(())
+}
+
+#[test]
 fn headers_refused(rt: HostRuntime) -> Result<(), Fail> {
     refuses(&rt, "", "refused script line 1 no-header/")?;
     refuses(&rt, "cells 8/", "refused script line 1 bad-word/")?;
