@@ -172,13 +172,6 @@ contains-one s one right e =
     positive W = omega arith
     positive E = omega arith
 
-pub named-of : (one : Rights) (right : Right) → one.0 ≡ 2 ^ bit_of right → IsNamed one
-named-of one T e = omega arith
-named-of one G e = omega arith
-named-of one R e = omega arith
-named-of one W e = omega arith
-named-of one E e = omega arith
-
 and_bits : (x y : ℕ) → x < 2 → y < 2 → (min x y == 1) ≡ ((x == 1) && (y == 1))
 and_bits zero zero p q = refl
 and_bits zero (suc zero) p q = refl

@@ -95,7 +95,8 @@ impl Right {
 impl Rights {
     /// The set of one right.
     pub fn of(right: Right) -> Rights
-        ensures { result.0 ≡ 2 ^ bit_of right }
+        ensures bit { result.0 ≡ 2 ^ bit_of right }
+        ensures named { IsNamed result }
     {
         match right {
             Right::T => Rights::TAKE,

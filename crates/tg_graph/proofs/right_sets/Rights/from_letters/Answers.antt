@@ -2,7 +2,7 @@ use Rattle.std.proofs.Common.{◌∙◌, ◌+◌, sym, ap, refl, drop, get_or, S
 use Rattle.tg_graph.specs.Sets.{right_of_letter}
 use Rattle.tg_graph.specs.Letters.{with_letters, with_new_right}
 use Rattle.tg_graph.proofs.Letters.{none-letters, letters-step, start-letters, taken-step, new-step, same_union}
-use Rattle.tg_graph.proofs.Sets.{named-union, named-of}
+use Rattle.tg_graph.proofs.Sets.{named-union}
 use Rattle.tg_graph.proofs.right_sets.Rights.from_letters.Goals as goal
 
 pub returns-in_err-right-clause-value : goal.returns-in_err-right-clause-value
@@ -37,6 +37,6 @@ loop-letter-preserved c =
           ∙ letters-step s bs i (get_or bs i 0) c.loop-letter-test.true refl
           ∙ ap (λ o. with_letters o (drop (i + 1) bs))
           (new-step s (right_of_letter (get_or bs i 0)) c.in_ok-right.right (sym c.from_letter.ensures ∙ c.in_ok-right.was) (sym c.has.ensures ∙ c.if-has.false)
-          ∙ ap Some (same_union s c.of.result c.union-rights.result c.in_ok-right.right (c.union-rights.ensures tt) c.of.ensures)),
-      named-union s c.of.result c.union-rights.result (c.union-rights.ensures tt) c.loop-letter.invariant.1 (named-of c.of.result c.in_ok-right.right c.of.ensures),
+          ∙ ap Some (same_union s c.of.result c.union-rights.result c.in_ok-right.right (c.union-rights.ensures tt) c.of.ensures.bit)),
+      named-union s c.of.result c.union-rights.result (c.union-rights.ensures tt) c.loop-letter.invariant.1 c.of.ensures.named,
     )
