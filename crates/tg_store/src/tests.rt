@@ -204,38 +204,34 @@ fn one_cell(rt: HostRuntime) -> Result<(), Fail> {
     Ok(())
 }
 
+// The name v0, v1 and so on.
+fn numbered(alloc: Global, number: u32) -> Result<Name, Fail> {
+    let text = format!(in alloc; "v{number}")?;
+    Ok(Name::parse(text.as_bytes())?)
+}
+
+// So many vertices without an edge.
+fn vertices(alloc: Global, count: u32) -> Result<Graph, Fail> {
+    let mut graph = Graph::new(alloc);
+    for number in 0..count {
+        graph.add_vertex(numbered(alloc, number)?)?;
+    }
+    Ok(graph)
+}
+
 #[test]
 fn no_room_for_two(rt: HostRuntime) -> Result<(), Fail> {
-    let mut g = Graph::new(rt.alloc());
-    for number in 0..1023 {
-        g.add_vertex(Name::helper(number))?;
-    }
+    let g = vertices(rt.alloc(), 1023)?;
+    let (x, y) = (numbered(rt.alloc(), 0)?, numbered(rt.alloc(), 1)?);
     let mut hall = opened(rt.alloc(), &g, 8, 2)?;
     begin_two(&rt, &mut hall);
-    told(
-        &rt,
-        &mut hall,
-        1,
-        create(Name::helper(0), b'p', b"-"),
-        said_done(),
-    );
-    told(
-        &rt,
-        &mut hall,
-        2,
-        create(Name::helper(1), b'q', b"-"),
-        said_done(),
-    );
+    told(&rt, &mut hall, 1, create(x, b'p', b"-"), said_done());
+    told(&rt, &mut hall, 2, create(y, b'q', b"-"), said_done());
     let full = HallReply::Said(Reply::Refused(Refusal::Full));
-    told(&rt, &mut hall, 2, create(Name::helper(1), b's', b"-"), full);
+    told(&rt, &mut hall, 2, create(y, b's', b"-"), full);
     told(&rt, &mut hall, 1, Act::Commit, HallReply::Put(0));
-    told(
-        &rt,
-        &mut hall,
-        2,
-        Act::Commit,
-        refused(HallFault::Crowded { place: 0 }),
-    );
+    let crowded = refused(HallFault::Crowded { place: 0 });
+    told(&rt, &mut hall, 2, Act::Commit, crowded);
     let last = last_of(&hall)?;
     assert!(rt; last.len() == 1024 && last.knows(name(b'p')) && !last.knows(name(b'q')));
     Ok(())
