@@ -2,6 +2,8 @@
 #![tactic(auto)]
 
 pub mod laws;
+#[cfg(test)]
+mod memory_tests;
 pub mod names;
 pub mod protection;
 pub mod right_sets;

@@ -286,33 +286,3 @@ fn one_vertex_in_all_places(rt: HostRuntime) -> Result<(), Fail> {
     assert!(rt; g.row_len(0) == 1 && g.label(a, a) == Some(set(b"t")));
     Ok(())
 }
-
-// Run it with one request for memory after another refused: each call then says so, and leaves its graph.
-#[test]
-fn refused_memory(rt: HostRuntime) {
-    let mut g = Graph::new(rt.alloc());
-    let a = name(b"a");
-    if let Err(fault) = g.add_vertex(a) {
-        assert!(rt; fault == VertexFault::Memory && g.len() == 0);
-        return;
-    }
-    if let Err(fault) = g.add_edge(a, a, set(b"tg")) {
-        assert!(rt; fault == EdgeFault::Memory && g.row_len(0) == 0);
-        return;
-    }
-    if let Err(fault) = g.apply(&create(b"a", b"b", b"g")) {
-        assert!(rt; fault == RuleFault::Memory && g.len() == 1 && g.row_len(0) == 1);
-        return;
-    }
-    if let Err(fault) = g.apply(&grant(b"a", b"b", b"a", b"t")) {
-        assert!(rt; fault == RuleFault::Memory && g.row_len(1) == 0);
-        return;
-    }
-    if let Err((place, fault)) = g.run(&[create(b"b", b"c", b"g"), grant(b"b", b"c", b"a", b"t")]) {
-        assert!(rt; fault == RuleFault::Memory && g.len() == 2 + place);
-        return;
-    }
-    if let Ok(copy) = g.copy() {
-        assert!(rt; copy.len() == 3 && copy.row_len(2) == 1);
-    }
-}

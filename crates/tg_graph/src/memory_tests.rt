@@ -1,0 +1,161 @@
+// Each test passes whichever one request for memory is refused: `rt try --test --fail-alloc N -- refused`, for N from 1 on.
+// Where a call was refused memory, its second try has it.
+ghost use Rattle.tg_graph.specs.Sets.{IsNamed};
+ghost use Rattle.tg_graph.specs.Rules.{rights_of};
+
+use crate::names::Name;
+use crate::protection::{EdgeFault, Graph, VertexFault};
+use crate::right_sets::{Right, Rights};
+use crate::rules::{Rule, RuleFault};
+use std::alloc::AllocError;
+use std::process::Abort;
+use std::test::Fail;
+
+// The names _0, _1 and _2.
+fn names() -> (Name, Name, Name) {
+    (Name::helper(0), Name::helper(1), Name::helper(2))
+}
+
+// Whether the vertices at a position have the same row.
+fn same_row(one: &Graph, other: &Graph, position: usize) -> bool {
+    if one.row_len(position) != other.row_len(position) {
+        return false;
+    }
+    for place in 0..one.row_len(position) {
+        if one.row_at(position, place) != other.row_at(position, place) {
+            return false;
+        }
+    }
+    true
+}
+
+// Whether two graphs have the same vertices in the same order, with the same rows.
+fn same(one: &Graph, other: &Graph) -> bool {
+    if one.len() != other.len() {
+        return false;
+    }
+    for position in 0..one.len() {
+        if one.name_at(position) != other.name_at(position) || !same_row(one, other, position) {
+            return false;
+        }
+    }
+    true
+}
+
+fn copied(rt: &impl Abort, g: &Graph) -> Result<Graph, AllocError> {
+    let copy = match g.copy() {
+        Ok(copy) => copy,
+        Err(_) => g.copy()?,
+    };
+    assert!(rt; same(g, &copy));
+    Ok(copy)
+}
+
+fn adds_vertex(rt: &impl Abort, g: &mut Graph, n: Name) -> Result<(), AllocError> {
+    let before = copied(rt, g)?;
+    if let Err(fault) = g.add_vertex(n) {
+        assert!(rt; fault == VertexFault::Memory && same(g, &before));
+        assert!(rt; g.add_vertex(n) == Ok(()));
+    }
+    Ok(())
+}
+
+fn adds_edge(
+    rt: &impl Abort,
+    g: &mut Graph,
+    x: Name,
+    y: Name,
+    rights: Rights,
+) -> Result<(), AllocError>
+    requires { IsNamed rights }
+{
+    let before = copied(rt, g)?;
+    if let Err(fault) = g.add_edge(x, y, rights) {
+        assert!(rt; fault == EdgeFault::Memory && same(g, &before));
+        assert!(rt; g.add_edge(x, y, rights) == Ok(()));
+    }
+    Ok(())
+}
+
+fn applies(rt: &impl Abort, g: &mut Graph, rule: Rule) -> Result<(), AllocError>
+    requires { IsNamed (rights_of rule) }
+{
+    let before = copied(rt, g)?;
+    if let Err(fault) = g.apply(&rule) {
+        assert!(rt; fault == RuleFault::Memory && same(g, &before));
+        assert!(rt; g.apply(&rule) == Ok(()));
+    }
+    Ok(())
+}
+
+// The vertex _0, which has t and g over itself.
+fn one(rt: &impl Abort, g: &mut Graph) -> Result<(), AllocError> {
+    let (x, _, _) = names();
+    adds_vertex(rt, g, x)?;
+    adds_edge(
+        rt,
+        g,
+        x,
+        x,
+        Rights::of(Right::T).union(Rights::of(Right::G)),
+    )
+}
+
+// _0 creates _1 with g, grants it t over itself, and creates _2.
+fn rule_at(place: usize) -> Rule
+    ensures { IsNamed (rights_of result) }
+{
+    let (x, y, z) = names();
+    match place {
+        0 => Rule::Create {
+            x,
+            n: y,
+            rights: Rights::of(Right::G),
+        },
+        1 => Rule::Grant {
+            x,
+            y,
+            z: x,
+            rights: Rights::of(Right::T),
+        },
+        _ => Rule::Create {
+            x,
+            n: z,
+            rights: Rights::of(Right::R),
+        },
+    }
+}
+
+fn runs(rt: &impl Abort, g: &mut Graph) -> Result<(), AllocError> {
+    let mut wanted = copied(rt, g)?;
+    if let Err((place, fault)) = g.run(&[rule_at(0), rule_at(1), rule_at(2)]) {
+        assert!(rt; fault == RuleFault::Memory);
+        for done in 0..place {
+            assert!(rt; wanted.apply(&rule_at(done)) == Ok(()));
+        }
+        assert!(rt; same(g, &wanted));
+        for left in place..3 {
+            assert!(rt; g.apply(&rule_at(left)) == Ok(()));
+        }
+    }
+    Ok(())
+}
+
+#[test]
+fn refused_rules(rt: HostRuntime) -> Result<(), Fail> {
+    let mut g = Graph::new(rt.alloc());
+    one(&rt, &mut g)?;
+    applies(&rt, &mut g, rule_at(0))?;
+    applies(&rt, &mut g, rule_at(1))?;
+    assert!(rt; g.len() == 2 && g.row_len(0) == 2 && g.row_len(1) == 1);
+    Ok(())
+}
+
+#[test]
+fn refused_in_a_run(rt: HostRuntime) -> Result<(), Fail> {
+    let mut g = Graph::new(rt.alloc());
+    one(&rt, &mut g)?;
+    runs(&rt, &mut g)?;
+    assert!(rt; g.len() == 3 && g.row_len(0) == 3 && g.row_len(1) == 1);
+    Ok(())
+}
