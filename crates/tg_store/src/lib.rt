@@ -4,6 +4,8 @@
 pub mod answers;
 pub mod events;
 pub mod halls;
+#[cfg(test)]
+mod memory_tests;
 mod overlays;
 pub mod records;
 mod replays;
