@@ -7,6 +7,8 @@ pub mod grammars;
 pub mod graph_text;
 pub mod laws;
 mod lines;
+#[cfg(test)]
+mod memory_tests;
 pub mod rule_text;
 pub mod script_text;
 pub mod spelling;

@@ -1,0 +1,98 @@
+// Each test passes whichever one request for memory is refused: `rt try --test --fail-alloc N -- memory_tests`, for N from
+// 1 on. Where a call was refused memory, its second try has it.
+use crate::{
+    TextFault, append_number, append_reply, read_graph, read_rule, read_rules, read_script,
+    write_graph, write_reply, write_rule,
+};
+use std::alloc::{AllocError, Global};
+use std::process::Abort;
+use std::test::Fail;
+use tg_graph::{Graph, Reply};
+
+const GRAPH: &[u8] = b"vertex a\nvertex b\nedge a b tg\n";
+
+const RULE: &[u8] = b"create a c r";
+
+const SCRIPT: &[u8] = b"seats 1\ncells 1\n1 begin\n1 commit\n";
+
+fn graph(rt: &impl Abort, alloc: Global) -> Result<Graph, TextFault> {
+    match read_graph(alloc, GRAPH) {
+        Ok(graph) => Ok(graph),
+        Err(fault) => {
+            assert!(rt; fault == TextFault::Memory);
+            read_graph(alloc, GRAPH)
+        }
+    }
+}
+
+fn written(alloc: Global, graph: &Graph) -> Result<Vec<u8>, AllocError> {
+    match write_graph(alloc, graph) {
+        Ok(text) => Ok(text),
+        Err(_) => write_graph(alloc, graph),
+    }
+}
+
+#[test]
+fn refused_graph(rt: HostRuntime) -> Result<(), Fail> {
+    let graph = graph(&rt, rt.alloc())?;
+    let text = written(rt.alloc(), &graph)?;
+    assert!(rt; text.as_slice() == GRAPH);
+    Ok(())
+}
+
+#[test]
+fn refused_rules(rt: HostRuntime) -> Result<(), Fail> {
+    let rules = match read_rules(rt.alloc(), RULE) {
+        Ok(rules) => rules,
+        Err(fault) => {
+            assert!(rt; fault == TextFault::Memory);
+            read_rules(rt.alloc(), RULE)?
+        }
+    };
+    assert!(rt; rules.len() == 1 && read_rule(RULE) == Ok(rules[0].rule));
+    let text = match write_rule(rt.alloc(), &rules[0].rule) {
+        Ok(text) => text,
+        Err(_) => write_rule(rt.alloc(), &rules[0].rule)?,
+    };
+    assert!(rt; text.as_slice() == RULE);
+    Ok(())
+}
+
+#[test]
+fn refused_script(rt: HostRuntime) -> Result<(), Fail> {
+    let script = match read_script(rt.alloc(), SCRIPT) {
+        Ok(script) => script,
+        Err(fault) => {
+            assert!(rt; fault == TextFault::Memory);
+            read_script(rt.alloc(), SCRIPT)?
+        }
+    };
+    assert!(rt; script.seats == 1 && script.cells == 1 && script.lines.len() == 2);
+    Ok(())
+}
+
+// What was refused memory has appended nothing.
+#[test]
+fn refused_text(rt: HostRuntime) -> Result<(), Fail> {
+    let mut text = Vec::new(rt.alloc());
+    if append_number(&mut text, 120).is_err() {
+        assert!(rt; text.as_slice() == b"".as_slice());
+        append_number(&mut text, 120)?;
+    }
+    if append_reply(&mut text, &Reply::Done).is_err() {
+        assert!(rt; text.as_slice() == b"120".as_slice());
+        append_reply(&mut text, &Reply::Done)?;
+    }
+    assert!(rt; text.as_slice() == b"120done".as_slice());
+    Ok(())
+}
+
+#[test]
+fn refused_reply(rt: HostRuntime) -> Result<(), Fail> {
+    let text = match write_reply(rt.alloc(), &Reply::Yes) {
+        Ok(text) => text,
+        Err(_) => write_reply(rt.alloc(), &Reply::Yes)?,
+    };
+    assert!(rt; text.as_slice() == b"yes".as_slice());
+    Ok(())
+}
