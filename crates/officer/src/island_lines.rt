@@ -3,8 +3,6 @@ ghost use Rattle.std.specs.Prelude.{◌≡◌, ◌++◌, ◌∷◌, [], IfOk, On
 ghost use Rattle.std.specs.Map.{keys_of};
 ghost use Rattle.std.specs.List.{flat_map};
 ghost use Rattle.tg_graph.specs.GraphOf.{graph_of};
-ghost use Rattle.tg_graph.specs.Rows.{IsGraph};
-ghost use Rattle.tg_text.specs.Canonical.{in_name_order};
 ghost use Rattle.officer.specs.Reports.{AreIslandLines, island_line};
 ghost use Rattle.officer.specs.Outcomes.{report_text, number_in, numbered, with_number, numbered_text};
 
@@ -12,21 +10,7 @@ use crate::outcome::Report;
 use std::alloc::{AllocError, Global};
 use tg_analysis::{Islands, islands};
 use tg_graph::{Graph, Name};
-
-// The names of the vertices in name order.
-fn names_in_order(alloc: Global, graph: &Graph) -> Result<Vec<Name>, AllocError>
-    ensures names { IfOk result (λ names. names.items ≡ in_name_order (graph_of graph.now).vertices) }
-    ensures graph { IsGraph graph.now }
-{
-    let mut names = Vec::with_capacity(alloc, graph.len())?;
-    for position in 0..graph.len() {
-        if let Some(name) = graph.name_at(position) {
-            names.push(name)?;
-        }
-    }
-    names.sort_unstable();
-    Ok(names)
-}
+use tg_text::names_in_order;
 
 // The number of the island of a vertex.
 fn number_of(graph: &Graph, islands: &Islands, name: Name) -> Option<usize>

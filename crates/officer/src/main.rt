@@ -10,7 +10,6 @@ mod island_lines;
 pub mod laws;
 #[cfg(test)]
 mod limit_tests;
-mod lines;
 pub mod outcome;
 mod outcome_lines;
 mod parts;

@@ -3,7 +3,7 @@ ghost use Rattle.std.specs.Prelude.{◌≡◌};
 ghost use Rattle.tg_text.specs.Lines.{lines_of};
 ghost use Rattle.officer.specs.Reports.{parts_texts, graph_part, rules_part};
 
-use crate::lines::{cut_line, cut_word};
+use tg_text::{cut_line, cut_word};
 
 // The most bytes of a line.
 const MOST_OF_A_LINE: usize = 256;

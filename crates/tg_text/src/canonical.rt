@@ -9,8 +9,8 @@ use crate::spelling::{put, put_name, put_rights};
 use std::alloc::{AllocError, Global};
 use tg_graph::{Graph, Name, Rights};
 
-// The names of the vertices in name order.
-fn names_in_order(alloc: Global, graph: &Graph) -> Result<Vec<Name>, AllocError>
+/// The names of the vertices of a graph in name order, each once. The error is want of memory.
+pub fn names_in_order(alloc: Global, graph: &Graph) -> Result<Vec<Name>, AllocError>
     ensures names { IfOk result (λ names. names.items ≡ in_name_order (graph_of graph.now).vertices) }
     ensures graph { IsGraph graph.now }
 {

@@ -6,7 +6,7 @@ pub mod faults;
 pub mod grammars;
 pub mod graph_text;
 pub mod laws;
-mod lines;
+pub mod lines;
 #[cfg(test)]
 mod memory_tests;
 pub mod rule_text;
@@ -18,9 +18,10 @@ mod words;
 #[cfg(test)]
 mod writing_tests;
 
-pub use canonical::write_graph;
+pub use canonical::{names_in_order, write_graph};
 pub use faults::{TextFault, TextKind};
 pub use graph_text::read_graph;
+pub use lines::{cut_line, cut_word};
 pub use rule_text::{RuleLine, read_rule, read_rules};
 pub use script_text::{Script, ScriptLine, read_script};
 pub use spelling::{append_number, append_reply, append_rule, write_reply, write_rule};

@@ -1,5 +1,5 @@
 //! Lines and words.
-ghost use Rattle.std.specs.Prelude.{◌≡◌, ◌<◌, ◌≤◌, ◌∷◌, [], nat_lt, true, false, take, drop, length, MatchOption};
+ghost use Rattle.std.specs.Prelude.{◌≡◌, ◌<◌, ◌≤◌, ◌∷◌, ◌++◌, [], nat_lt, true, false, take, drop, length, MatchOption, IfSome};
 ghost use Rattle.tg_text.specs.Lines.{lines_of, words_of, is_blank, begins_with_word, begins_with_hash, is_skipped};
 ghost use Rattle.tg_text.specs.Reading.{Sees, content_of};
 ghost use Rattle.std.specs.Option.{option_copied};
@@ -9,10 +9,14 @@ use crate::faults::TextKind;
 // The most bytes of a line.
 pub(crate) const MAX_LINE: usize = 256;
 
-// The first line, and what stands behind it.
-pub(crate) fn cut_line(text: &[u8]) -> (&[u8], &[u8])
+/// The first line of a text without its line feed, and what stands behind it.
+///
+/// A text that is not empty has a first line, and each cut makes it shorter, so a loop that goes on with what
+/// stands behind the line meets every line in turn. No memory is taken.
+pub fn cut_line(text: &[u8]) -> (&[u8], &[u8])
     requires { 0 < length text.now }
     ensures cut { lines_of text.now ≡ result.0.now ∷ lines_of result.1.now }
+    ensures joined { 0 < length result.1.now → text.now ≡ result.0.now ++ 10 ∷ result.1.now }
     ensures shorter { length result.1.now < length text.now }
 {
     for i in 0..text.len() {
@@ -46,6 +50,7 @@ fn blanks(bytes: &[u8]) -> usize
 // The length of the word at the front.
 fn word_len(bytes: &[u8]) -> usize
     requires { begins_with_word bytes.now ≡ true }
+    ensures some { 0 < result }
     ensures within { result ≤ length bytes.now }
     ensures word { words_of bytes.now ≡ take result bytes.now ∷ words_of (drop result bytes.now) }
 {
@@ -57,9 +62,12 @@ fn word_len(bytes: &[u8]) -> usize
     bytes.len()
 }
 
-// The first word, and what stands behind it.
-pub(crate) fn cut_word(bytes: &[u8]) -> Option<(&[u8], &[u8])>
-    ensures { MatchOption result (words_of bytes.now ≡ []) (λ cut. words_of bytes.now ≡ cut.0.now ∷ words_of cut.1.now) }
+/// The first word of a line, and what stands behind it, which is shorter; nothing where the line has no word.
+///
+/// No memory is taken.
+pub fn cut_word(bytes: &[u8]) -> Option<(&[u8], &[u8])>
+    ensures cut { MatchOption result (words_of bytes.now ≡ []) (λ cut. words_of bytes.now ≡ cut.0.now ∷ words_of cut.1.now) }
+    ensures shorter { IfSome result (λ cut. length cut.1.now < length bytes.now) }
 {
     let start = blanks(bytes);
     if start == bytes.len() {
