@@ -1,7 +1,7 @@
 -- The steps of a flood.
-use Rattle.std.proofs.Common.{◌≡◌, ℕ, ◌<◌, Bool, true, false, List, [], ◌∷◌, ◌++◌, Option, Some, None, refl, sym, ap, subst, ◌∙◌, nat_eq, is_some, length, get_or, true≢false, inl, inr, ◌⊎◌, ◌||◌}
+use Rattle.std.proofs.Common.{◌≡◌, ℕ, ◌<◌, true, false, List, [], ◌∷◌, ◌++◌, Option, Some, None, refl, sym, ap, subst, ◌∙◌, nat_eq, is_some, length, get_or, true≢false, inl, inr, ◌⊎◌}
 use Rattle.std.specs.List.{list_any}
-use Rattle.std.proofs.lemmas.Bool.{eqb-true, eq-eqb}
+use Rattle.std.proofs.lemmas.Bool.{eqb-true, eq-eqb, or_cases, or_left, or_right}
 use Rattle.std.proofs.lemmas.List.Folds.{list_any-append, list_any_at}
 use Rattle.tg_analysis.specs.declared.flooding.Flood.{Flood}
 use Rattle.tg_analysis.specs.Linked.{NeighbourLists, neighbours, is_near}
@@ -25,17 +25,6 @@ module _ (s t : Flood) (kept : Kept s t) (a : ℕ) where
       by : (o : Option ℕ) → number_at s a ≡ o → is_some o ≡ true → is_some (number_at t a) ≡ true
       by None p q = absurd (true≢false (sym q))
       by (Some m) p q = ap is_some (kept a m p)
-
-or_cases : (x y : Bool) → (x || y) ≡ true → (x ≡ true) ⊎ (y ≡ true)
-or_cases true y h = inl refl
-or_cases false y h = inr h
-
-or_left : (x y : Bool) → x ≡ true → (x || y) ≡ true
-or_left x y h = ap (λ b. b || y) h
-
-or_right : (x y : Bool) → y ≡ true → (x || y) ≡ true
-or_right true y h = refl
-or_right false y h = h
 
 pub one_of-append : (a : ℕ) (xs ys : List ℕ) → IsOneOf a (xs ++ ys) → IsOneOf a xs ⊎ IsOneOf a ys
 one_of-append a xs ys h = or_cases (list_any (nat_eq a) xs) (list_any (nat_eq a) ys) (sym (list_any-append (nat_eq a) xs ys) ∙ h)

@@ -2,12 +2,12 @@
 use Rattle.std.proofs.Common.{◌≡◌, ℕ, zero, suc, ◌+◌, ◌-◌, ◌*◌, ◌/◌, ◌%◌, ◌^◌, ◌<◌, ◌≤◌, Bool, true, false, ◌||◌, ◌⊎◌, inl, inr, List, [], ◌∷◌, length, map, refl, sym, ap, ◌∙◌, subst, Some, None, if◌then◌else◌, arith, eq-or-lt_of_le, le_of_suc-le-suc, pow-suc}
 use Rattle.std.proofs.lemmas.Bool.{or_cases, or_left, or_right, both_ways, cases_Bool, false_from_ne_true, eq-eqb, eqb-true}
 use Rattle.std.proofs.lemmas.List.{length-map}
-use Rattle.std.proofs.lemmas.Bool.Decides.{nat_tests}
 use Rattle.std.specs.Prelude.{nat_eq}
 use Rattle.std.specs.List.{list_any}
-use Rattle.tg_graph.specs.Names.{IsName, first_bad, fits_at}
+use Rattle.tg_graph.specs.Names.{IsName, first_bad}
 use Rattle.tg_graph.specs.Graphs.{Name, same_name}
 use Rattle.tg_graph.proofs.Rows.{same_bytes}
+use Rattle.tg_graph.proofs.NameLaws.{letter_fits}
 use Rattle.tg_analysis.proofs.Counts.{has, without, without_lt, without_keeps}
 
 abbrev among : ℕ → List ℕ → Bool
@@ -74,9 +74,6 @@ number_letters (suc n) k l = let ih : number (letters n (k / 26)) ≡ k / 26 = n
 length-letters : (n k : ℕ) → length (letters n k) ≡ n
 length-letters zero k = refl
 length-letters (suc n) k = ap suc (length-letters n (k / 26))
-
-letter_fits : (k b : ℕ) → 97 ≤ b → b ≤ 122 → fits_at k b ≡ true
-letter_fits k b l h = grind (arith, nat_tests)
 
 letters_fit : (n k i : ℕ) → first_bad i (letters n k) ≡ None
 letters_fit zero k i = refl

@@ -1,15 +1,12 @@
 -- `_` and digits are a name.
-use Rattle.std.proofs.Common.{◌≡◌, ℕ, zero, suc, ◌^◌, ◌+◌, ◌<◌, ◌≤◌, true, List, [], ◌∷◌, length, map, Some, None, refl, ap, ◌∙◌, arith, ◌-◌, ◌++◌, ◌/◌, ◌%◌, take, drop, set, if◌then◌else◌, sym, append_assoc}
+use Rattle.std.proofs.Common.{◌≡◌, ℕ, zero, suc, ◌^◌, ◌+◌, ◌<◌, ◌≤◌, List, [], ◌∷◌, length, map, Some, None, refl, ap, ◌∙◌, arith, ◌-◌, ◌++◌, ◌/◌, ◌%◌, take, drop, set, if◌then◌else◌, sym, append_assoc}
 use Rattle.std.proofs.lemmas.List.{drop-set, take_all, length-append, length-drop}
-use Rattle.std.proofs.lemmas.Bool.Decides.{nat_tests}
 use Rattle.std.proofs.lemmas.Int.Digits.{all_below_base_digits_of}
 use Rattle.std.proofs.lemmas.Fmt.{decimal_digit, decimal_step, decimal_nonempty, decimal-digits_of, length-decimal-le}
 use Rattle.std.specs.Fmt.{decimal}
-use Rattle.tg_graph.specs.Names.{IsName, first_bad, fits_at}
+use Rattle.tg_graph.specs.Names.{IsName, first_bad}
 use Rattle.std.specs.Int.Digits.{AllBelowBase, digits_of}
-
-digit_fits : (k b : ℕ) → 0 < k → 48 ≤ b → b ≤ 57 → fits_at k b ≡ true
-digit_fits k b p l h = grind (arith, nat_tests)
+use Rattle.tg_graph.proofs.NameLaws.{digit_fits}
 
 digits_fit : (k : ℕ) (ds : List ℕ) → 0 < k → AllBelowBase 10 ds → first_bad k (map (λ d. 48 + d) ds) ≡ None
 digits_fit k [] p h = refl

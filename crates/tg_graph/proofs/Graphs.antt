@@ -2,6 +2,7 @@
 use Rattle.std.proofs.Common.{◌≡◌, ℕ, Bool, true, false, cond, List, [], ◌∷◌, ◌++◌, Option, Some, None, refl, sym, ap, subst, ◌∙◌, bytes_eq, IfSome, IsSome, ◌&&◌, ◌||◌, not, unwrap_or, is_some, true≢false, MatchBool, ◌<◌, arith}
 use Rattle.std.specs.Option.{option_map_or}
 use Rattle.std.proofs.lemmas.Bool.Decides.{nat_tests}
+use Rattle.std.proofs.Math.Bool.{or-false, or-true, and-true}
 use Rattle.std.specs.List.{list_any}
 use Rattle.std.specs.Map.{keys_of, lookup}
 use Rattle.std.specs.Cmp.Lexicographic.{nat_list_eq_equiv}
@@ -17,32 +18,18 @@ use Rattle.tg_graph.specs.Names.{IsName}
 use Rattle.tg_graph.specs.Graphs.{WellFormed}
 use Rattle.tg_graph.specs.GraphOf.{graph_of}
 use Rattle.tg_graph.specs.Rules.{with_edge, without_edge, with_rights, without_rights, with_vertex}
-use Rattle.tg_graph.proofs.Rows.{same_bytes, row_none, or_true}
+use Rattle.tg_graph.proofs.Rows.{symm, same_bytes, row_none}
 use Rattle.tg_graph.proofs.Sets.{member-nothing, where-member}
 use Rattle.std.proofs.lemmas.List.{map-append}
 use Rattle.std.proofs.lemmas.List.Folds.{list_any-append}
 use Rattle.std.proofs.lemmas.Map.Keys.{IsDistinct-push}
-
-symm : (x y : List ℕ) → bytes_eq x y ≡ bytes_eq y x
-symm = nat_list_eq_equiv.symm
-
-one : (k x y : List ℕ) → bytes_eq k x ≡ true → bytes_eq k y ≡ bytes_eq x y
-one k x y e = nat_list_eq_equiv.congr k x y e
-
-or_false : (b : Bool) → b ≡ (b || false)
-or_false true = refl
-or_false false = refl
-
-and_true : (b : Bool) → b ≡ (b && true)
-and_true true = refl
-and_true false = refl
 
 module _ {P : Edges → Edges → Type 0} (old new : Entries) (x : List ℕ) (c : ChangesRow P old new x) where
   found_some : IsSome (lookup (bytes_eq x) old)
   found_some = ap is_some c.found
 
   pub row-changed : (u : List ℕ) → lookup (bytes_eq u) new ≡ cond (bytes_eq x u) (Some c.after) (lookup (bytes_eq u) old)
-  row-changed u = ap (lookup (bytes_eq u)) c.put ∙ lookup-set_value nat_list_eq_equiv (bytes_eq x) (one x) u c.after old found_some
+  row-changed u = ap (lookup (bytes_eq u)) c.put ∙ lookup-set_value nat_list_eq_equiv (bytes_eq x) (nat_list_eq_equiv.congr x) u c.after old found_some
 
   pub keys-changed : keys_of new ≡ keys_of old
   keys-changed = ap keys_of c.put ∙ keys-set_value (bytes_eq x) old c.after
@@ -77,7 +64,7 @@ module _ (old new : Entries) (x y : List ℕ) (s : Rights) (c : ChangesRow (λ a
           ∙ (λ i. member (option_map_or (λ row. label_in row v) (sym (was old new x c u e) i) nothing) right || (sym (symm u x ∙ e) i && bytes_eq v y && member s right))
       by false e =
           ap (λ o. member (option_map_or (λ row. label_in row v) o nothing) right) (away old new x c u e)
-          ∙ or_false (member (label_of old u v) right)
+          ∙ sym (or-false (member (label_of old u v) right))
           ∙ (λ i. member (label_of old u v) right || (sym (symm u x ∙ e) i && bytes_eq v y && member s right))
 
   pub graph-adds : graph_of new ≡ with_rights (graph_of old) x y s
@@ -180,7 +167,7 @@ module _ (n : List ℕ) where
   keys-pushed es = map-append (λ (e : List ℕ × Edges). e.0) es ((n, []) ∷ [])
 
   known-pushed : (es : Entries) (v : List ℕ) → is_known (pushed es) v ≡ (is_known es v || bytes_eq v n)
-  known-pushed es v = ap (list_any (bytes_eq v)) (keys-pushed es) ∙ list_any-append (bytes_eq v) (keys_of es) (n ∷ []) ∙ ap (λ b. is_known es v || b) (sym (or_false (bytes_eq v n)))
+  known-pushed es v = ap (list_any (bytes_eq v)) (keys-pushed es) ∙ list_any-append (bytes_eq v) (keys_of es) (n ∷ []) ∙ ap (λ b. is_known es v || b) (or-false (bytes_eq v n))
 
   pub graph-pushed : (es : Entries) → graph_of (pushed es) ≡ with_vertex (graph_of es) n
   graph-pushed es = λ i. record { vertices = keys-pushed es i; holds = λ u right v. member (label_of-pushed es u v i) right }
@@ -218,7 +205,7 @@ module _ (n : List ℕ) where
       where
         by : (u v : List ℕ) (a : Bool) → has_edge old u v ≡ a → (a || bytes_eq v n) ≡ true → (is_known mid v || bytes_eq v n) ≡ true
         by u v true p h = either_left (is_known mid v) (bytes_eq v n) (ap (list_any (bytes_eq v)) (keys-changed old mid x c) ∙ g.known u v p)
-        by u v false p h = ap (λ b. is_known mid v || b) h ∙ or_true (is_known mid v)
+        by u v false p h = ap (λ b. is_known mid v || b) h ∙ or-true (is_known mid v)
 
 -- ---- an edge with no rights adds nothing
 pub with_edge-nothing : (holds : List ℕ → Right → List ℕ → Bool) (x y : List ℕ) (s : Rights) → s.0 ≡ 0 → with_edge holds x y s ≡ holds
@@ -244,7 +231,7 @@ module _ (old new : Entries) (x y : List ℕ) (s : Rights) (c : ChangesRow (λ a
           ∙ (λ i. member (option_map_or (λ row. label_in row v) (sym (was old new x c u e) i) nothing) right && not (sym (symm u x ∙ e) i && bytes_eq v y && member s right))
       by false e =
           ap (λ o. member (option_map_or (λ row. label_in row v) o nothing) right) (away old new x c u e)
-          ∙ and_true (member (label_of old u v) right)
+          ∙ sym (and-true (member (label_of old u v) right))
           ∙ (λ i. member (label_of old u v) right && not (sym (symm u x ∙ e) i && bytes_eq v y && member s right))
 
   pub graph-takes : graph_of new ≡ without_rights (graph_of old) x y s

@@ -31,13 +31,13 @@ byte_from_fits k b (inl (inl letter)) = (inl letter, λ e d. omega arith)
 byte_from_fits k b (inl (inr line)) = (inr (inr line), λ e d. omega arith)
 byte_from_fits k b (inr digit) = (inr (inl (digit.1, digit.2)), λ e d. omega arith)
 
-letter_fits : (k b : ℕ) → 97 ≤ b → b ≤ 122 → fits_at k b ≡ true
+pub letter_fits : (k b : ℕ) → 97 ≤ b → b ≤ 122 → fits_at k b ≡ true
 letter_fits k b l h = grind (arith, nat_tests)
 
 line_fits : (k b : ℕ) → b ≡ 95 → fits_at k b ≡ true
 line_fits k b e = grind (arith, nat_tests)
 
-digit_fits : (k b : ℕ) → 0 < k → 48 ≤ b → b ≤ 57 → fits_at k b ≡ true
+pub digit_fits : (k b : ℕ) → 0 < k → 48 ≤ b → b ≤ 57 → fits_at k b ≡ true
 digit_fits k b p l h = grind (arith, nat_tests)
 
 positive : (k : ℕ) → (k ≡ 0 → ⊥) → 0 < k

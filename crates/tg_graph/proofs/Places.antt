@@ -15,7 +15,7 @@ use Rattle.std.proofs.lemmas.Map.Lookups.{exact_bytes}
 use Rattle.tg_graph.specs.declared.right_sets.Rights.{Rights}
 use Rattle.tg_graph.specs.Rows.{Edges, IsRow, IsLabel, IsPlaceOf, IsGapFor, Puts}
 use Rattle.tg_graph.proofs.Order.{not_less}
-use Rattle.tg_graph.proofs.Rows.{labelled-puts}
+use Rattle.tg_graph.proofs.Rows.{symm, labelled-puts}
 
 -- the order of names
 abbrev pub name_cmp : List ℕ → List ℕ → Ordering
@@ -24,12 +24,6 @@ name_cmp = slice_cmp nat_cmp
 -- the targets are in strict name order
 abbrev pub IsUp : Edges → Type 0
 IsUp row = IsStrictlySortedBy name_cmp (keys_of row)
-
-symm : (x y : List ℕ) → bytes_eq x y ≡ bytes_eq y x
-symm = nat_list_eq_equiv.symm
-
-one : (k x y : List ℕ) → bytes_eq k x ≡ true → bytes_eq k y ≡ bytes_eq x y
-one k x y e = nat_list_eq_equiv.congr k x y e
 
 -- names that one is below are other names
 apart_from_less : (x y : List ℕ) → name_cmp x y ≡ Less → bytes_eq y x ≡ false
@@ -145,7 +139,7 @@ module _ (row : Edges) (v : List ℕ) (i : ℕ) (r : IsRow row) (p : IsPlaceOf r
   place_some = ap is_some (lookup-place row v i (v, record { 0 = 0 }) r.sorted p)
 
   pub puts-set : (s : Rights) → Puts row (set row i (v, s)) v (Some s)
-  puts-set s u = ap (lookup (bytes_eq u)) (set-place row v s i r.sorted p) ∙ lookup-set_value nat_list_eq_equiv (bytes_eq v) (one v) u s row place_some
+  puts-set s u = ap (lookup (bytes_eq u)) (set-place row v s i r.sorted p) ∙ lookup-set_value nat_list_eq_equiv (bytes_eq v) (nat_list_eq_equiv.congr v) u s row place_some
 
   pub row-set : (s : Rights) → IsLabel s → IsRow (set row i (v, s))
   row-set s l = record {
@@ -154,7 +148,7 @@ module _ (row : Edges) (v : List ℕ) (i : ℕ) (r : IsRow row) (p : IsPlaceOf r
   }
 
   pub puts-remove : Puts row (remove row i) v None
-  puts-remove u = ap (lookup (bytes_eq u)) (remove-place row v i r.sorted p) ∙ lookup-remove_entry nat_list_eq_equiv (bytes_eq v) (one v) u row (distinct_from_up row r.sorted)
+  puts-remove u = ap (lookup (bytes_eq u)) (remove-place row v i r.sorted p) ∙ lookup-remove_entry nat_list_eq_equiv (bytes_eq v) (nat_list_eq_equiv.congr v) u row (distinct_from_up row r.sorted)
 
   pub row-remove : IsRow (remove row i)
   row-remove = record { sorted = up-remove row i r.sorted; labelled = labelled-puts row (remove row i) v None r.labelled puts-remove tt }

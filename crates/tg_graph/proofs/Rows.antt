@@ -8,6 +8,7 @@ use Rattle.tg_graph.specs.declared.right_sets.Right.{Right}
 use Rattle.tg_graph.specs.Sets.{member, nothing, IsNamed}
 use Rattle.tg_graph.proofs.Sets.{member-union, named-union, member-nothing, member-difference}
 use Rattle.std.specs.Int.{bit_not}
+use Rattle.std.proofs.Math.Bool.{or-false, or-true, and-true}
 use Rattle.std.specs.Int.Bits.{or_zero_l}
 use Rattle.std.specs.Cmp.Lexicographic.{slice_cmp}
 use Rattle.std.specs.Cmp.Lexicographic.{nat_list_eq_equiv}
@@ -25,23 +26,11 @@ labelled-puts old new y w h p l v = subst (λ o. IfSome o IsLabel) (sym (p v)) (
     by true = l
     by false = h v
 
-symm : (x y : List ℕ) → bytes_eq x y ≡ bytes_eq y x
+pub symm : (x y : List ℕ) → bytes_eq x y ≡ bytes_eq y x
 symm = nat_list_eq_equiv.symm
 
 pub same_bytes : (x y : List ℕ) → bytes_eq x y ≡ true → x ≡ y
 same_bytes x y = (bytes_eq-Decides x y).0
-
-or_false : (b : Bool) → b ≡ (b || false)
-or_false true = refl
-or_false false = refl
-
-pub or_true : (b : Bool) → (b || true) ≡ true
-or_true true = refl
-or_true false = refl
-
-and_true : (b : Bool) → b ≡ (b && true)
-and_true true = refl
-and_true false = refl
 
 module _ (old new : Edges) (y : List ℕ) (s : Rights) where
   module _ (label : Rights) (sum : label.0 ≡ bit_or (label_in old y).0 s.0) (p : Puts old new y (Some label)) where
@@ -55,12 +44,12 @@ module _ (old new : Edges) (y : List ℕ) (s : Rights) where
             ∙ (λ i. member (label_in old (same_bytes y v e i)) right || (sym (symm v y ∙ e) i && member s right))
         at v right false e =
             ap (λ o. member (unwrap_or o nothing) right) (p v ∙ ap (λ b. cond b (Some label) (lookup (bytes_eq v) old)) e)
-            ∙ or_false (member (label_in old v) right)
+            ∙ sym (or-false (member (label_in old v) right))
             ∙ (λ i. member (label_in old v) right || (sym (symm v y ∙ e) i && member s right))
 
         known : (v : List ℕ) (b : Bool) → bytes_eq y v ≡ b → is_target new v ≡ true → (is_target old v || bytes_eq v y) ≡ true
-        known v true e h = ap (λ b. is_target old v || b) (symm v y ∙ e) ∙ or_true (is_target old v)
-        known v false e h = ap (λ b. is_target old v || b) (symm v y ∙ e) ∙ sym (or_false (is_target old v)) ∙ sym (ap is_some (p v ∙ ap (λ b. cond b (Some label) (lookup (bytes_eq v) old)) e)) ∙ h
+        known v true e h = ap (λ b. is_target old v || b) (symm v y ∙ e) ∙ or-true (is_target old v)
+        known v false e h = ap (λ b. is_target old v || b) (symm v y ∙ e) ∙ or-false (is_target old v) ∙ sym (ap is_some (p v ∙ ap (λ b. cond b (Some label) (lookup (bytes_eq v) old)) e)) ∙ h
 
   -- what is left of the label, or no edge
   module _ (w : Option Rights) (left : (right : Right) → member (unwrap_or w nothing) right ≡ (member (label_in old y) right && not (member s right))) (p : Puts old new y w) (there : is_some w ≡ true → is_target old y ≡ true) where
@@ -74,7 +63,7 @@ module _ (old new : Edges) (y : List ℕ) (s : Rights) where
             ∙ (λ i. member (label_in old (same_bytes y v e i)) right && not (sym (symm v y ∙ e) i && member s right))
         at v right false e =
             ap (λ o. member (unwrap_or o nothing) right) (p v ∙ ap (λ b. cond b w (lookup (bytes_eq v) old)) e)
-            ∙ and_true (member (label_in old v) right)
+            ∙ sym (and-true (member (label_in old v) right))
             ∙ (λ i. member (label_in old v) right && not (sym (symm v y ∙ e) i && member s right))
 
         known : (v : List ℕ) (b : Bool) → bytes_eq y v ≡ b → is_target new v ≡ true → is_target old v ≡ true
@@ -97,11 +86,11 @@ takes-nothing row y s e = record { members = λ v right. at v right (bytes_eq v 
 
     at : (v : List ℕ) (right : Right) (b : Bool) → bytes_eq v y ≡ b → member (label_in row v) right ≡ (member (label_in row v) right && not (bytes_eq v y && member s right))
     at v right true t = empty v right t ∙ sym (ap (λ b. b && not (bytes_eq v y && member s right)) (empty v right t))
-    at v right false t = and_true (member (label_in row v) right) ∙ ap (λ b. member (label_in row v) right && not (b && member s right)) (sym t)
+    at v right false t = sym (and-true (member (label_in row v) right)) ∙ ap (λ b. member (label_in row v) right && not (b && member s right)) (sym t)
 
 pub adds-nothing : (row : Edges) (y : List ℕ) (s : Rights) → s.0 ≡ 0 → Adds row row y s
 adds-nothing row y s e = record {
-  members = λ v right. or_false (member (label_in row v) right) ∙ ap (λ b. member (label_in row v) right || b) (none v right (bytes_eq v y));
+  members = λ v right. sym (or-false (member (label_in row v) right)) ∙ ap (λ b. member (label_in row v) right || b) (none v right (bytes_eq v y));
   targets = λ v h. ap (λ b. b || bytes_eq v y) h;
 }
   where

@@ -3,10 +3,10 @@ use Rattle.std.proofs.Common.{◌≡◌, ℕ, ◌+◌, ◌≤◌, Bool, true, fa
 use Rattle.std.specs.Prelude.{find, if◌then◌else◌, nat_le, ⊤}
 use Rattle.std.specs.List.{list_any}
 use Rattle.std.proofs.lemmas.List.{length-append, append-nil}
-use Rattle.std.proofs.lemmas.Slice.Eq.{bytes_eq-Decides}
 use Rattle.std.proofs.lemmas.List.Folds.{list_any-append}
+use Rattle.std.proofs.lemmas.Bool.{or_left, or_right}
+use Rattle.std.proofs.Math.Bool.{or-false, and-true}
 use Rattle.std.proofs.lemmas.Bool.Decides.{nat_tests}
-use Rattle.std.specs.Cmp.Lexicographic.{nat_list_eq_equiv}
 use Rattle.tg_graph.specs.declared.right_sets.Right.{Right}
 use Rattle.tg_graph.specs.declared.right_sets.Right.TheVariants.{T, G}
 use Rattle.tg_graph.specs.declared.right_sets.Rights.{Rights}
@@ -22,7 +22,9 @@ use Rattle.tg_graph.specs.Sets.{member, rights_where, is_empty_set}
 use Rattle.tg_graph.specs.Graphs.{Name, ProtectionGraph, SameGraph, has_vertex, same_name}
 use Rattle.tg_graph.specs.Rules.{refusal_of, after, unknown, refused_if, not_held, with_edge, without_edge}
 use Rattle.tg_graph.specs.RuleLists.{AllAccepted, after_all, CanShare}
+use Rattle.tg_graph.proofs.Rows.{same_bytes}
 use Rattle.tg_graph.proofs.Same.{refusal-same, after-same}
+use Rattle.tg_analysis.proofs.NameTests.{same_refl}
 use Rattle.tg_store.specs.declared.answers.Answered.{Answered}
 use Rattle.tg_store.specs.Answers.{most_vertices, IsAnswer, AreAnswers, session_refusal, lack_of_room, or_else, unknown_of_two, reply_unless, after_step, after_steps}
 use Rattle.tg_store.specs.Touches.{written_by, step_writes, writes, step_touches, reply_touches, touches, step_creates, creates}
@@ -37,35 +39,6 @@ pub agree_self : (test : Name → Bool) (g : ProtectionGraph) → Agree test g g
 agree_self test g = record { rows = λ u t right v. refl; known = λ u t. refl; grows = λ u k. k }
 
 -- ---- tests
-or_false : (b : Bool) → (b || false) ≡ b
-or_false true = refl
-or_false false = refl
-
-and_true : (b : Bool) → (b && true) ≡ b
-and_true true = refl
-and_true false = refl
-
-or_left : (a b : Bool) → a ≡ true → (a || b) ≡ true
-or_left a b e = ap (λ x. x || b) e
-
-or_right : (a b : Bool) → b ≡ true → (a || b) ≡ true
-or_right true b e = refl
-or_right false b e = e
-
-or_none_left : (a b : Bool) → (a || b) ≡ false → a ≡ false
-or_none_left true b e = e
-or_none_left false b e = refl
-
-or_none_right : (a b : Bool) → (a || b) ≡ false → b ≡ false
-or_none_right true b e = absurd (true≢false e)
-or_none_right false b e = e
-
-pub same_self : (v : Name) → same_name v v ≡ true
-same_self v = nat_list_eq_equiv.refl v
-
-pub same_is : (x y : Name) → same_name x y ≡ true → x ≡ y
-same_is x y = (bytes_eq-Decides x y).0
-
 or_mono : (a b c : Bool) → (a ≡ true → b ≡ true) → (a || c) ≡ true → (b || c) ≡ true
 or_mono true b c m e = or_left b c (m refl)
 or_mono false b c m e = or_right b c e
@@ -132,24 +105,24 @@ module _ (test : Name → Bool) where
   other u x t f = by (same_name u x) refl
     where
       by : (b : Bool) → same_name u x ≡ b → b ≡ false
-      by true e = absurd (true≢false (sym t ∙ ap test (same_is u x e) ∙ f))
+      by true e = absurd (true≢false (sym t ∙ ap test (same_bytes u x e) ∙ f))
       by false e = refl
 
   module _ (g k : ProtectionGraph) (a : Agree test g k) where
     rows-with : (x z : Name) (s : Rights) → test x ≡ false → (u : Name) → test u ≡ true → (right : Right) (v : Name) → g.holds u right v ≡ with_edge k.holds x z s u right v
     rows-with x z s f u t right v =
         a.rows u t right v
-        ∙ sym (ap (λ b. k.holds u right v || (b && same_name v z && member s right)) (other u x t f) ∙ or_false (k.holds u right v))
+        ∙ sym (ap (λ b. k.holds u right v || (b && same_name v z && member s right)) (other u x t f) ∙ or-false (k.holds u right v))
 
     rows-without : (x z : Name) (s : Rights) → test x ≡ false → (u : Name) → test u ≡ true → (right : Right) (v : Name) → g.holds u right v ≡ without_edge k.holds x z s u right v
     rows-without x z s f u t right v =
         a.rows u t right v
-        ∙ sym (ap (λ b. k.holds u right v && not (b && same_name v z && member s right)) (other u x t f) ∙ and_true (k.holds u right v))
+        ∙ sym (ap (λ b. k.holds u right v && not (b && same_name v z && member s right)) (other u x t f) ∙ and-true (k.holds u right v))
 
     known-with : (n : Name) → test n ≡ false → (u : Name) → test u ≡ true → has_vertex g u ≡ list_any (same_name u) (k.vertices ++ n ∷ [])
     known-with n f u t =
         a.known u t
-        ∙ sym (list_any-append (same_name u) k.vertices (n ∷ []) ∙ ap (λ b. has_vertex k u || (b || false)) (other u n t f) ∙ or_false (has_vertex k u))
+        ∙ sym (list_any-append (same_name u) k.vertices (n ∷ []) ∙ ap (λ b. has_vertex k u || (b || false)) (other u n t f) ∙ or-false (has_vertex k u))
 
     grows-with : (n u : Name) → has_vertex g u ≡ true → list_any (same_name u) (k.vertices ++ n ∷ []) ≡ true
     grows-with n u e = list_any-append (same_name u) k.vertices (n ∷ []) ∙ or_left (has_vertex k u) (same_name u n || false) (a.grows u e)
@@ -213,14 +186,14 @@ module _ (test : Name → Bool) where
     refusal-agrees : (rule : Rule) → ((u : Name) → step_touches (Do rule) u ≡ true → test u ≡ true) → Covers (refusal_of g rule) → refusal_of g rule ≡ refusal_of h rule
     unfolding refusal_of
     refusal-agrees (Take x y z s) t c =
-        let tx : test x ≡ true = t x (or_left (same_name x x) (same_name x y) (same_self x)) in
-        let ty : test y ≡ true = t y (or_right (same_name y x) (same_name y y) (same_self y)) in
+        let tx : test x ≡ true = t x (or_left (same_name x x) (same_name x y) (same_refl x)) in
+        let ty : test y ≡ true = t y (or_right (same_name y x) (same_name y y) (same_refl y)) in
         on x _ _ c (λ c. on y _ _ c (λ c. on z _ _ c (λ c i. refused_if (is_empty_set s) Empty (refused_if (not (a.rows x tx T y i)) NoTake (not_held (rights_where (λ right. member s right && not (a.rows y ty right z i))))))))
     refusal-agrees (Grant x y z s) t c =
-        let tx : test x ≡ true = t x (or_left (same_name x x) (same_name x y) (same_self x)) in
+        let tx : test x ≡ true = t x (or_left (same_name x x) (same_name x y) (same_refl x)) in
         on x _ _ c (λ c. on y _ _ c (λ c. on z _ _ c (λ c i. refused_if (is_empty_set s) Empty (refused_if (not (a.rows x tx G y i)) NoGrant (not_held (rights_where (λ right. member s right && not (a.rows x tx right z i))))))))
     refusal-agrees (Create x n s) t c =
-        let tn : test n ≡ true = t n (or_right (same_name n x) (same_name n n) (same_self n)) in
+        let tn : test n ≡ true = t n (or_right (same_name n x) (same_name n n) (same_refl n)) in
         on x _ _ c (λ c i. refused_if (a.known n tn i) (Taken n) None)
     refusal-agrees (Remove x y s) t c = on x _ _ c (λ c. on y _ _ c (λ c. refl))
 
@@ -275,7 +248,7 @@ module _ (test : Name → Bool) where
     covers_reply : (reply : Reply) (r : Option Refusal) (other : Reply) → reply ≡ reply_unless r other → ((u : Name) → reply_touches reply u ≡ true → test u ≡ true) → Covers r
     unfolding Covers
     covers_reply reply r other e t v is =
-        t v (ap (λ p. reply_touches p v) (e ∙ ap (λ r. reply_unless r other) is) ∙ same_self v)
+        t v (ap (λ p. reply_touches p v) (e ∙ ap (λ r. reply_unless r other) is) ∙ same_refl v)
 
     alike : (step : Step) (reply : Reply) → ((u : Name) → step_touches step u ≡ true → test u ≡ true) → ((u : Name) → reply_touches reply u ≡ true → test u ≡ true)
         → length g.vertices ≤ length h.vertices → length h.vertices + length (step_creates g step) ≤ most_vertices → IsAnswer g step reply → Alike step reply
@@ -285,7 +258,7 @@ module _ (test : Name → Bool) where
         let same : session_refusal g rule ≡ session_refusal h rule = session_refusal-agrees rule (refusal-agrees rule t covers) le fit in
         record { answer = e ∙ ap (λ r. reply_unless r Done) same; agree = next-agrees rule same; creations = creates-agrees rule same }
     alike (Holds right x y) reply t tr le fit e =
-        let tx : test x ≡ true = t x (same_self x) in
+        let tx : test x ≡ true = t x (same_refl x) in
         let covers : Covers (unknown_of_two g x y) = covers_reply reply (unknown_of_two g x y) (if g.holds x right y then Yes else No) e tr in
         let same : unknown_of_two g x y ≡ unknown_of_two h x y = on x _ _ covers (λ c. on y _ _ c (λ c. refl)) in
         record { answer = e ∙ (λ i. reply_unless (same i) (if a.rows x tx right y i then Yes else No)); agree = a; creations = refl }

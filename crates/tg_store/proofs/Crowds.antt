@@ -5,6 +5,7 @@ use Rattle.std.specs.List.{list_any, IsDistinct, AllByRecursion}
 use Rattle.std.proofs.lemmas.List.{length-append, append-nil}
 use Rattle.std.proofs.lemmas.List.Folds.{list_any-append}
 use Rattle.std.proofs.lemmas.Map.Keys.{IsDistinct-push}
+use Rattle.std.proofs.lemmas.Bool.{or_left, or_right}
 use Rattle.std.specs.Cmp.Lexicographic.{nat_list_eq_equiv}
 use Rattle.tg_graph.specs.declared.rules.Rule.TheVariants.{Take, Grant, Create, Remove}
 use Rattle.tg_graph.specs.declared.rules.Refusal.{Refusal}
@@ -16,7 +17,8 @@ use Rattle.tg_graph.specs.Rules.{refusal_of, refused_if}
 use Rattle.tg_store.specs.declared.answers.Answered.{Answered}
 use Rattle.tg_store.specs.Answers.{most_vertices, AreAnswers, session_refusal, lack_of_room, or_else, after_step, after_steps}
 use Rattle.tg_store.specs.Touches.{writes, step_touches, reply_touches, touches, step_creates, creates, spoiler, name_count}
-use Rattle.tg_store.proofs.Agreement.{Agree, agree_self, apart_find, untouched-steps, vertices-step, vertices-steps, same_self, keeps}
+use Rattle.tg_analysis.proofs.NameTests.{same_refl}
+use Rattle.tg_store.proofs.Agreement.{Agree, agree_self, apart_find, untouched-steps, vertices-step, vertices-steps, keeps}
 
 -- ---- lists without repeats
 none_equal : (v : Name) (vs : List Name) → AllByRecursion (λ w. bytes_eq v w ≡ false) vs → list_any (same_name v) vs ≡ false
@@ -44,13 +46,6 @@ created_fresh : (g : ProtectionGraph) (x n : Name) (s : _) → is_none (session_
 unfolding refusal_of
 created_fresh g x n s e = fresh_of _ (has_vertex g n) x n (or_else_none (refusal_of g (Create x n s)) (lack_of_room g (Create x n s)) e)
 
-or_left : (a b : Bool) → a ≡ true → (a || b) ≡ true
-or_left a b e = ap (λ x. x || b) e
-
-or_right : (a b : Bool) → b ≡ true → (a || b) ≡ true
-or_right true b e = refl
-or_right false b e = e
-
 -- the names of a list are among the vertices exactly where the session touches them
 abbrev Same : (Name → Bool) → ProtectionGraph → List Name → Type 0
 Same test g names = (v : Name) → test v ≡ true → list_any (same_name v) names ≡ has_vertex g v
@@ -65,7 +60,7 @@ module _ (test : Name → Bool) where
   step_distinct g names (Do (Create x n s)) h t d = by (is_none (session_refusal g (Create x n s))) refl
     where
       by : (b : Bool) → is_none (session_refusal g (Create x n s)) ≡ b → IsDistinct bytes_eq (names ++ (if b then n ∷ [] else []))
-      by true e = IsDistinct-push nat_list_eq_equiv names n d (h n (t n (or_right (same_name n x) (same_name n n) (same_self n))) ∙ created_fresh g x n s e)
+      by true e = IsDistinct-push nat_list_eq_equiv names n d (h n (t n (or_right (same_name n x) (same_name n n) (same_refl n))) ∙ created_fresh g x n s e)
       by false e = subst (IsDistinct bytes_eq) (sym (append-nil names)) d
   step_distinct g names (Do (Take x y z s)) h t d = subst (IsDistinct bytes_eq) (sym (append-nil names)) d
   step_distinct g names (Do (Grant x y z s)) h t d = subst (IsDistinct bytes_eq) (sym (append-nil names)) d

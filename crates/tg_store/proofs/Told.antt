@@ -1,7 +1,8 @@
 -- What true replies tell: which rules were accepted.
-use Rattle.std.proofs.Common.{◌≡◌, ℕ, ◌+◌, Bool, true, false, List, [], ◌∷◌, ◌++◌, length, Option, None, Some, is_none, refl, sym, ap, subst, ◌∙◌, arith, ◌||◌, true≢false}
+use Rattle.std.proofs.Common.{◌≡◌, ℕ, ◌+◌, Bool, true, false, List, [], ◌∷◌, ◌++◌, length, Option, None, Some, is_none, refl, sym, ap, subst, ◌∙◌, arith}
 use Rattle.std.specs.Prelude.{count_by, if◌then◌else◌}
 use Rattle.std.proofs.lemmas.List.{length-append}
+use Rattle.std.proofs.lemmas.Bool.{or_parts}
 use Rattle.std.proofs.lemmas.List.Recursion.{is_count_by}
 use Rattle.std.specs.List.{list_any}
 use Rattle.tg_graph.specs.declared.rules.Rule.TheVariants.{Take, Grant, Create, Remove}
@@ -73,14 +74,6 @@ count-is = is_count_by creation_count tells_creation refl (λ a rest. refl)
 pub creates-told : (g : ProtectionGraph) (steps : List Answered) → AreAnswers g steps → length (creates g steps) ≡ count_by tells_creation steps
 creates-told g steps h = creates-counted g steps h ∙ count-is steps
 
-or_left : (a b : Bool) → (a || b) ≡ false → a ≡ false
-or_left true b e = e
-or_left false b e = refl
-
-or_right : (a b : Bool) → (a || b) ≡ false → b ≡ false
-or_right true b e = absurd (true≢false e)
-or_right false b e = e
-
 unchanged-step : (g : ProtectionGraph) (step : Step) (reply : Reply) → IsAnswer g step reply → tells_change (record { step = step; reply = reply }) ≡ false → after_step g step ≡ g
 unchanged-step g (Do rule) reply h e =
     ap (λ b. if b then after g rule else g) (sym (done-accepted (session_refusal g rule) reply h) ∙ e)
@@ -91,6 +84,6 @@ unchanged-step g (Share right x y) reply h e = refl
 pub unchanged-told : (g : ProtectionGraph) (steps : List Answered) → AreAnswers g steps → list_any tells_change steps ≡ false → after_steps g steps ≡ g
 unchanged-told g [] h e = refl
 unchanged-told g (a ∷ rest) h e =
-    let same = unchanged-step g a.step a.reply h.0 (or_left (tells_change a) (list_any tells_change rest) e) in
+    let same = unchanged-step g a.step a.reply h.0 (or_parts (tells_change a) (list_any tells_change rest) e).0 in
     ap (λ k. after_steps k rest) same
-    ∙ unchanged-told g rest (subst (λ k. AreAnswers k rest) same h.1) (or_right (tells_change a) (list_any tells_change rest) e)
+    ∙ unchanged-told g rest (subst (λ k. AreAnswers k rest) same h.1) (or_parts (tells_change a) (list_any tells_change rest) e).1

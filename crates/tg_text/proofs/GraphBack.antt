@@ -1,5 +1,5 @@
 -- The canonical text of a graph is read as the graph.
-use Rattle.std.proofs.Common.{◌≡◌, ℕ, ◌+◌, ◌≤◌, ◌<◌, Bool, true, false, ◌&&◌, ◌||◌, not, nat_le, if◌then◌else◌, List, [], ◌∷◌, ◌++◌, length, codes, Ok, Err, refl, sym, ap, subst, ◌∙◌, arith, true≢false, bytes_eq, nat_cmp}
+use Rattle.std.proofs.Common.{◌≡◌, ℕ, ◌+◌, ◌≤◌, ◌<◌, Bool, true, false, ◌&&◌, ◌||◌, not, nat_le, if◌then◌else◌, List, [], ◌∷◌, ◌++◌, length, codes, Ok, Err, refl, sym, ap, subst, ◌∙◌, arith, bytes_eq, nat_cmp}
 use Rattle.std.specs.List.{AllByRecursion, flat_map}
 use Rattle.std.specs.List.Sorted.{IsStrictlySortedBy}
 use Rattle.std.specs.BTreeSet.{insert_key}
@@ -7,6 +7,8 @@ use Rattle.std.specs.Ordering.{is_eq, match_ordering, ordering_reverse}
 use Rattle.std.specs.declared.cmp.Ordering.TheVariants.{Less, Equal, Greater}
 use Rattle.std.specs.Cmp.Lexicographic.{slice_cmp, nat_list_cmp_total, texts_ties}
 use Rattle.std.proofs.lemmas.Bool.Decides.{nat_tests, Decides-eqb}
+use Rattle.std.proofs.lemmas.Bool.{and_parts, or_right}
+use Rattle.std.proofs.Math.Bool.{and-false, or-false, or_assoc}
 use Rattle.std.proofs.lemmas.List.{append-nil, append_assoc, length-append}
 use Rattle.std.proofs.lemmas.List.Folds.{list_any-append}
 use Rattle.std.proofs.lemmas.Slice.Eq.{bytes_eq-Decides}
@@ -29,7 +31,6 @@ use Rattle.tg_text.specs.Canonical.{canonical_text, edge_line, in_name_order, li
 use Rattle.tg_text.specs.RoundTrips.{in_order}
 use Rattle.tg_text.proofs.NameOrder.{Above, Strict, among, among-in_order, first, strict-in_order}
 use Rattle.tg_text.proofs.PlainWords.{IsPlainWord, lines-spaced, line-is, name_at-is, name_word, rights_word, word_from_test}
-use Rattle.tg_text.proofs.RowLines.{or_right}
 use Rattle.tg_text.proofs.RuleBack.{rights_at-is, length-two, length-more}
 
 -- ---- one line
@@ -104,33 +105,9 @@ edge-item a x y s p q n e k m f =
     ∙ (λ i. if not (k i && m i) then Err UnknownVertex else (if not (f i) then Err DuplicateEdge else Ok (with_rights a x y s)))
 
 -- ---- the lines of edges
-and_left : (x y : Bool) → x && y ≡ true → x ≡ true
-and_left true y e = refl
-and_left false y e = absurd (true≢false (sym e))
-
-and_right : (x y : Bool) → x && y ≡ true → y ≡ true
-and_right true y e = e
-and_right false y e = absurd (true≢false (sym e))
-
-and_false : (b : Bool) → (b && false) ≡ false
-and_false true = refl
-and_false false = refl
-
-or_false : (b : Bool) → (b || false) ≡ b
-or_false true = refl
-or_false false = refl
-
-or_assoc : (a b c : Bool) → ((a || b) || c) ≡ (a || (b || c))
-or_assoc true b c = refl
-or_assoc false b c = refl
-
-or_true : (b : Bool) → (b || true) ≡ true
-or_true true = refl
-or_true false = refl
-
 one_more : (g a c m e f : Bool) → ((e && f) ≡ true → m ≡ g) → ((g && (a || (e && c))) || (e && f && m)) ≡ (g && (a || (e && (c || (f || false)))))
-one_more g a c m false f h = or_false (g && (a || false))
-one_more g a c m true false h = or_false (g && (a || c)) ∙ ap (λ b. g && (a || b)) (sym (or_false c))
+one_more g a c m false f h = or-false (g && (a || false))
+one_more g a c m true false h = or-false (g && (a || c)) ∙ ap (λ b. g && (a || b)) (sym (or-false c))
 one_more true a c m true true h = ap (λ b. (a || c) || b) (h refl) ∙ or_assoc a c true
 one_more false a c m true true h = h refl
 
@@ -148,7 +125,7 @@ module _ (g : ProtectionGraph) (w : WellFormed g) (vs : List Name) (known : (v :
       at : (u : Name) (right : Right) (v : Name) → with_edge (in_row us x ys).holds x y (label_between g x y) u right v ≡ (in_row us x (ys ++ y ∷ [])).holds u right v
       at u right v =
           one_more (g.holds u right v) (among u us) (among v ys) (member (label_between g x y) right) (bytes_eq u x) (bytes_eq v y)
-          (λ both. member-where (λ right. g.holds x right y) right ∙ (λ i. g.holds (sym ((bytes_eq-Decides u x).0 (and_left (bytes_eq u x) (bytes_eq v y) both)) i) right (sym ((bytes_eq-Decides v y).0 (and_right (bytes_eq u x) (bytes_eq v y) both)) i)))
+          (λ both. member-where (λ right. g.holds x right y) right ∙ (λ i. g.holds (sym ((bytes_eq-Decides u x).0 (and_parts (bytes_eq u x) (bytes_eq v y) both).0) i) right (sym ((bytes_eq-Decides v y).0 (and_parts (bytes_eq u x) (bytes_eq v y) both).1) i)))
           ∙ ap (λ b. g.holds u right v && (among u us || (bytes_eq u x && b))) (sym (list_any-append (bytes_eq v) ys (y ∷ [])))
 
   no_edge : (us : List Name) (x : Name) (ys : List Name) (y : Name) → is_empty_set (label_between g x y) ≡ true → in_row us x ys ≡ in_row us x (ys ++ y ∷ [])
@@ -162,7 +139,7 @@ module _ (g : ProtectionGraph) (w : WellFormed g) (vs : List Name) (known : (v :
     where
       none : (right : Right) → (in_row us x ys).holds x right y ≡ false
       none right =
-          (λ i. g.holds x right y && (p i || (bytes_eq x x && q i))) ∙ ap (λ b. g.holds x right y && b) (and_false (bytes_eq x x)) ∙ and_false (g.holds x right y)
+          (λ i. g.holds x right y && (p i || (bytes_eq x x && q i))) ∙ ap (λ b. g.holds x right y && b) (and-false (bytes_eq x x)) ∙ and-false (g.holds x right y)
 
   name_of : (v : Name) → among v vs ≡ true → IsName v
   name_of v m = w.names v (sym (known v) ∙ m)
@@ -192,7 +169,7 @@ module _ (g : ProtectionGraph) (w : WellFormed g) (vs : List Name) (known : (v :
   begun us x = λ i. record { vertices = vs; holds = λ u right v. g.holds u right v && none u i }
     where
       none : (u : Name) → (among u us || (bytes_eq u x && false)) ≡ among u us
-      none u = ap (λ b. among u us || b) (and_false (bytes_eq u x)) ∙ or_false (among u us)
+      none u = ap (λ b. among u us || b) (and-false (bytes_eq u x)) ∙ or-false (among u us)
 
   ended : (us : List Name) (x : Name) → in_row us x vs ≡ after_rows (us ++ x ∷ [])
   ended us x = λ i. record { vertices = vs; holds = λ u right v. at u right v i }
@@ -228,7 +205,7 @@ module _ (g : ProtectionGraph) (w : WellFormed g) (vs : List Name) (known : (v :
       at u right v = by (g.holds u right v) (among u vs) (λ e. known u ∙ (w.ends u right v e).0)
 
   none_yet : bare vs ≡ after_rows []
-  none_yet = λ i. record { vertices = vs; holds = λ u right v. sym (and_false (g.holds u right v)) i }
+  none_yet = λ i. record { vertices = vs; holds = λ u right v. sym (and-false (g.holds u right v)) i }
 
   all_among : (ws : List Name) → ((v : Name) → among v ws ≡ true → among v vs ≡ true) → AllByRecursion (λ v. among v vs ≡ true) ws
   all_among [] h = tt

@@ -1,7 +1,8 @@
 -- Words written with single spaces, and lines that end in a line feed, are read as they were written.
-use Rattle.std.proofs.Common.{◌≡◌, ℕ, ◌+◌, ◌<◌, ◌≤◌, Bool, true, false, ◌&&◌, not, ◌==◌, nat_lt, List, [], ◌∷◌, ◌++◌, length, None, Some, Result, Ok, Err, refl, sym, ap, ◌∙◌, true≢false, arith, if◌then◌else◌, is_ok}
+use Rattle.std.proofs.Common.{◌≡◌, ℕ, ◌+◌, ◌<◌, ◌≤◌, Bool, true, false, ◌&&◌, not, ◌==◌, nat_lt, List, [], ◌∷◌, ◌++◌, length, None, Some, Result, Ok, Err, refl, sym, ap, ◌∙◌, arith, if◌then◌else◌, is_ok}
 use Rattle.std.specs.List.{AllByRecursion, list_all, onto_first}
 use Rattle.std.proofs.lemmas.List.{append_assoc, append-nil}
+use Rattle.std.proofs.lemmas.Bool.{and_parts, not-true}
 use Rattle.std.proofs.lemmas.Bool.Decides.{nat_tests}
 use Rattle.tg_graph.specs.declared.right_sets.Right.{Right}
 use Rattle.tg_graph.specs.declared.right_sets.Right.TheVariants.{T, G, R, W, E}
@@ -31,27 +32,15 @@ pub record IsPlainWord (word : Word) : Type 0 where
   pub some : 0 < length word
   pub plain : AllByRecursion (λ b. is_plain b ≡ true) word
 
-and_left : (x y : Bool) → x && y ≡ true → x ≡ true
-and_left true y e = refl
-and_left false y e = absurd (true≢false (sym e))
-
-and_right : (x y : Bool) → x && y ≡ true → y ≡ true
-and_right true y e = e
-and_right false y e = absurd (true≢false (sym e))
-
-not_true : (b : Bool) → not b ≡ true → b ≡ false
-not_true true e = absurd (true≢false (sym e))
-not_true false e = refl
-
 plain_not_blank : (b : ℕ) → is_plain b ≡ true → is_blank b ≡ false
-plain_not_blank b e = not_true (is_blank b) (and_left (not (is_blank b)) (not (b == 10)) e)
+plain_not_blank b e = not-true (is_blank b) (and_parts (not (is_blank b)) (not (b == 10)) e).0
 
 plain_not_feed : (b : ℕ) → is_plain b ≡ true → (b == 10) ≡ false
-plain_not_feed b e = not_true (b == 10) (and_right (not (is_blank b)) (not (b == 10)) e)
+plain_not_feed b e = not-true (b == 10) (and_parts (not (is_blank b)) (not (b == 10)) e).1
 
 plain_from_test : (bs : List ℕ) → list_all is_plain bs ≡ true → Plain bs
 plain_from_test [] e = tt
-plain_from_test (b ∷ bs) e = (and_left (is_plain b) (list_all is_plain bs) e, plain_from_test bs (and_right (is_plain b) (list_all is_plain bs) e))
+plain_from_test (b ∷ bs) e = ((and_parts (is_plain b) (list_all is_plain bs) e).0, plain_from_test bs (and_parts (is_plain b) (list_all is_plain bs) e).1)
 
 -- a fixed word, by computation
 pub word_from_test : (word : Word) → list_all is_plain word ≡ true → nat_lt 0 (length word) ≡ true → IsPlainWord word

@@ -4,6 +4,7 @@ use Rattle.std.specs.declared.cmp.Ordering.TheVariants.{Less, Equal, Greater}
 use Rattle.std.specs.Cmp.Lexicographic.{slice_cmp, nat_list_cmp_total, texts_ties}
 use Rattle.std.specs.Ordering.{is_eq, ordering_reverse}
 use Rattle.std.proofs.lemmas.List.{take_more}
+use Rattle.std.proofs.lemmas.Bool.{or_right}
 use Rattle.std.proofs.lemmas.Option.{slice_get_within, get_or_from_slice_get, slice_get-get_or, none-some}
 use Rattle.std.specs.List.{slice_get, flat_map, position, position_from}
 use Rattle.std.specs.List.Sorted.{IsStrictlySortedBy}
@@ -19,10 +20,6 @@ use Rattle.tg_text.specs.Canonical.{edge_line}
 use Rattle.tg_text.proofs.NameOrder.{Strict, Above, among, absent, first, reversed, above_above, same_name-refl}
 
 -- ---- a row among all vertices
-pub or_right : (a b : Bool) → b ≡ true → (a || b) ≡ true
-or_right true b e = refl
-or_right false b e = e
-
 -- a name below each key has no label
 none_below : (v : Name) (row : Edges) → Above v (keys_of row) → label_in row v ≡ nothing
 none_below v [] a = refl
