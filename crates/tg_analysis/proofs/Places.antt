@@ -14,6 +14,7 @@ use Rattle.std.proofs.lemmas.Map.Keys.{IsDistinct-from_sorted}
 use Rattle.std.proofs.lemmas.Map.Entries.{place_from_lookup, lookup_from_place}
 use Rattle.std.proofs.lemmas.Map.Text.{is_eq-slice_cmp}
 use Rattle.std.proofs.lemmas.Slice.Eq.{bytes_eq-Decides}
+use Rattle.tg_graph.proofs.Places.{distinct_from_up}
 use Rattle.tg_graph.specs.declared.right_sets.Right.{Right}
 use Rattle.tg_graph.specs.declared.right_sets.Rights.{Rights}
 use Rattle.tg_graph.specs.Sets.{member, nothing}
@@ -82,9 +83,6 @@ row_of es ok a u e = by (slice_get es a) refl (sym (slice_get-map (λ (k : Name 
           sorted = subst (λ o. IfSome o IsRow) found (ok.rows u);
         }
 
-targets_apart : (row : Edges) → IsRow row → IsDistinct bytes_eq (keys_of row)
-targets_apart row r = subst (λ (same : Name → Name → Bool). IsDistinct same (keys_of row)) (λ i x y. is_eq-slice_cmp x y i) (IsDistinct-from_sorted (slice_cmp nat_cmp) (keys_of row) r.sorted)
-
 module _ (es : Entries) (ok : IsGraph es) (a : ℕ) (u : Name) (e : slice_get (keys_of es) a ≡ Some u) where
   -- the rights of a vertex are those of the labels in its row
   pub holds-row : (right : Right) (v : Name) → (graph_of es).holds u right v ≡ member (label_in (row_number es a) v) right
@@ -96,7 +94,7 @@ module _ (es : Entries) (ok : IsGraph es) (a : ℕ) (u : Name) (e : slice_get (k
   holds-place place v label right p =
       let r = row_of es ok a u e in
       holds-row right v
-      ∙ ap (λ o. member (unwrap_or o nothing) right) (lookup_from_place nat_list_eq_equiv (row_number es a) place v label (targets_apart (row_number es a) (subst IsRow (sym r.number) r.sorted)) p)
+      ∙ ap (λ o. member (unwrap_or o nothing) right) (lookup_from_place nat_list_eq_equiv (row_number es a) place v label (distinct_from_up (row_number es a) (subst IsRow (sym r.number) r.sorted).sorted) p)
 
   pub place-holds : (right : Right) (v : Name) → (graph_of es).holds u right v ≡ true → (place : ℕ) × (label : Rights) × (slice_get (row_number es a) place ≡ Some (v, label)) × (member label right ≡ true)
   place-holds right v h = by (lookup (bytes_eq v) (row_number es a)) refl (sym (holds-row right v) ∙ h)

@@ -3,6 +3,7 @@ use Rattle.std.proofs.Common.{◌≡◌, ℕ, ◌+◌, ◌-◌, ◌*◌, ◌<◌
 use Rattle.std.specs.Int.{bit_at, bit_not}
 use Rattle.std.proofs.lemmas.Nat.Bits.{bit_at_and, bit_at_or, bit_at_not, bit_at-lt, same_from_bits_below, and_pow}
 use Rattle.std.proofs.lemmas.Nat.{or_lt, and_le_l, and_le_r}
+use Rattle.std.proofs.lemmas.Bool.{and_parts}
 use Rattle.std.proofs.lemmas.Bool.Decides.{nat_tests, Decides-eqb}
 use Rattle.tg_graph.specs.declared.right_sets.Right.{Right}
 use Rattle.tg_graph.specs.declared.right_sets.Right.TheVariants.{T, G, R, W, E}
@@ -74,17 +75,9 @@ module _ (a b : Rights) (same : (right : Right) → member a right ≡ member b 
 abbrev both : (Bool → Bool) → Bool
 both f = f true && f false
 
-and_left : (x y : Bool) → x && y ≡ true → x ≡ true
-and_left true y e = refl
-and_left false y e = absurd (true≢false (sym e))
-
-and_right : (x y : Bool) → x && y ≡ true → y ≡ true
-and_right true y e = e
-and_right false y e = absurd (true≢false (sym e))
-
 at_both : (f : Bool → Bool) → both f ≡ true → (b : Bool) → f b ≡ true
-at_both f e true = and_left (f true) (f false) e
-at_both f e false = and_right (f true) (f false) e
+at_both f e true = (and_parts (f true) (f false) e).0
+at_both f e false = (and_parts (f true) (f false) e).1
 
 abbrev bits_of : Bool → Bool → Bool → Bool → Bool → ℕ
 bits_of t g r w e = weight t 1 + weight g 2 + weight r 4 + weight w 8 + weight e 16
@@ -190,7 +183,7 @@ member-common a b right =
 
 pub contains-members : (a b : Rights) (r : Bool) → r ≡ (bit_and a.0 b.0 == b.0) → r ≡ true → (right : Right) → member b right ≡ true → member a right ≡ true
 contains-members a b r e t right m =
-    and_left (member a right) (member b right) (sym (member-common a b right) ∙ ap (λ n. member (record { 0 = n }) right) ((Decides-eqb (bit_and a.0 b.0) b.0).0 (sym e ∙ t)) ∙ m)
+    (and_parts (member a right) (member b right) (sym (member-common a b right) ∙ ap (λ n. member (record { 0 = n }) right) ((Decides-eqb (bit_and a.0 b.0) b.0).0 (sym e ∙ t)) ∙ m)).0
 
 pub members-contains : (a b : Rights) (r : Bool) → IsNamed b → r ≡ (bit_and a.0 b.0 == b.0) → ((right : Right) → member b right ≡ true → member a right ≡ true) → r ≡ true
 members-contains a b r n e h =

@@ -275,7 +275,7 @@ impl Graph {
         if !self.holds(x, Right::T, y) {
             return Err(Refusal::NoTake);
         }
-        not_held(missing(rights, self.label_between(y, z)))
+        not_held(rights.difference(self.label_between(y, z)))
     }
 
     // The first refusal of a create.
@@ -315,7 +315,7 @@ impl Graph {
         if !self.holds(x, Right::G, y) {
             return Err(Refusal::NoGrant);
         }
-        not_held(missing(rights, self.label_between(x, z)))
+        not_held(rights.difference(self.label_between(x, z)))
     }
 
     // The first refusal of a remove.
@@ -477,15 +477,6 @@ fn narrow(rows: &mut IndexMap<Name, Row>, x: Name, y: Name, rights: Rights)
         Some(row) => row.take(y, rights),
         None => {},
     }
-}
-
-// The rights of a set that are not held.
-fn missing(rights: Rights, held: Rights) -> Rights
-    requires named { IsNamed rights }
-    requires held_named { IsNamed held }
-    ensures { result ≡ rights_where (λ right. member rights right && not (member held right)) }
-{
-    Flags::difference(rights, held)
 }
 
 // The refusal for rights that are not held, if there are such.

@@ -14,16 +14,14 @@ use Rattle.tg_graph.specs.Additions.{label_between}
 use Rattle.tg_graph.specs.Sets.{member, nothing, IsNamed}
 use Rattle.tg_graph.specs.Rows.{Edges, Entries, IsGraph, IsLabel, IsRow, label_in, label_of, is_target, row_number}
 use Rattle.tg_graph.proofs.Sets.{same_set, member-where, named-where}
+use Rattle.tg_graph.proofs.Places.{distinct_from_up}
 use Rattle.tg_text.specs.Canonical.{edge_line, in_name_order, row_text}
 use Rattle.tg_text.proofs.NameOrder.{among, among-in_order, strict-in_order}
 use Rattle.tg_text.proofs.RowLines.{edge_of, row-lines, row-found, FoundAt}
 
 -- ---- a row has labels
-distinct_keys : (row : Edges) → IsRow row → IsDistinct bytes_eq (keys_of row)
-distinct_keys row r = subst (λ eq. IsDistinct eq (keys_of row)) (λ i x y. sym (texts_ties x y) i) (IsDistinct-from_sorted (slice_cmp nat_cmp) (keys_of row) r.sorted)
-
 pub label-at : (row : Edges) (k : ℕ) (e : Name × Rights) → IsRow row → slice_get row k ≡ Some e → IsLabel e.1
-label-at row k e r s = subst (λ o. IfSome o IsLabel) (lookup_from_place nat_list_eq_equiv row k e.0 e.1 (distinct_keys row r) s) (r.labelled e.0)
+label-at row k e r s = subst (λ o. IfSome o IsLabel) (lookup_from_place nat_list_eq_equiv row k e.0 e.1 (distinct_from_up row r.sorted) s) (r.labelled e.0)
 
 named_in : (row : Edges) (v : Name) → IsRow row → IsNamed (label_in row v)
 named_in row v r = by (lookup (bytes_eq v) row) (r.labelled v)
