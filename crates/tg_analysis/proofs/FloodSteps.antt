@@ -104,29 +104,6 @@ module _ (ps : List ℕ) (p : ℕ) (s t u : Flood) (m : Meets ps s t) (n : Meets
   }
 
 -- ---- one position after another
-pub floods-seed : (links : NeighbourLists) (seed : ℕ) (old new : Flood) → old.waiting.items ≡ [] → Meets (seed ∷ []) old new → FloodsSoFar links seed old new
-floods-seed links seed old new calm m = record {
-  len = m.len;
-  current = m.current;
-  kept = m.kept;
-  numbered = λ a e. numbered a (m.numbered a e);
-  seed_met = m.met seed (single-one_of seed);
-  spreads = λ a e f. spreads a f (m.numbered a e);
-  waits = λ a h. waits a (m.waits a h);
-}
-  where
-    numbered : (a : ℕ) → (number_at new a ≡ None) ⊎ ((number_at new a ≡ Some old.current) × IsOneOf a (seed ∷ []) × IsOneOf a new.waiting.items) → (number_at new a ≡ None) ⊎ ((number_at new a ≡ Some old.current) × HasWay links seed a)
-    numbered a (inl e) = inl e
-    numbered a (inr h) = inr (h.0, ([], sym (one_of-single a seed h.1)))
-
-    spreads : (a : ℕ) → number_at new a ≡ Some old.current → (number_at new a ≡ None) ⊎ ((number_at new a ≡ Some old.current) × IsOneOf a (seed ∷ []) × IsOneOf a new.waiting.items) → IsOneOf a new.waiting.items ⊎ ((b : ℕ) → is_near links a b ≡ true → is_some (number_at new b) ≡ true)
-    spreads a f (inl e) = absurd (true≢false (sym (ap is_some f) ∙ ap is_some e))
-    spreads a f (inr h) = inl h.2
-
-    waits : (a : ℕ) → IsOneOf a old.waiting.items ⊎ ((number_at old a ≡ None) × (number_at new a ≡ Some old.current)) → (number_at old a ≡ None) × (number_at new a ≡ Some old.current)
-    waits a (inl h) = absurd (true≢false (sym h ∙ ap (list_any (nat_eq a)) calm))
-    waits a (inr h) = h
-
 -- the last of those that wait is taken out
 pub record TakesLast (p : ℕ) (old new : Flood) : Type 0 where
   pub numbers : new.numbers ≡ old.numbers

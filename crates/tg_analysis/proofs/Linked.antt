@@ -1,11 +1,9 @@
 -- What the links of the edges so far say of the graph.
-use Rattle.std.proofs.Common.{◌≡◌, ℕ, ◌<◌, ◌≤◌, ◌+◌, Bool, true, false, cond, List, [], Some, None, refl, sym, ap, subst, ◌∙◌, bytes_eq, nat_eq, length, slice_get, replicate, arith, true≢false, inl, inr, ◌⊎◌, ◌||◌, ◌&&◌}
-use Rattle.std.specs.List.{list_any, position}
+use Rattle.std.proofs.Common.{◌≡◌, ℕ, ◌<◌, ◌≤◌, ◌+◌, Bool, true, false, cond, [], Some, None, refl, sym, ap, subst, ◌∙◌, bytes_eq, nat_eq, length, slice_get, arith, true≢false, inl, inr, ◌⊎◌, ◌||◌, ◌&&◌}
+use Rattle.std.specs.List.{position}
 use Rattle.std.specs.Map.{keys_of}
 use Rattle.std.specs.Option.{option_map_or, option_and_then}
 use Rattle.std.proofs.lemmas.Bool.{cases_lt, eqb-true, eq-eqb}
-use Rattle.std.proofs.lemmas.List.{get_or-replicate, length-replicate}
-use Rattle.std.proofs.Math.ListN.{get_or-eq_default}
 use Rattle.std.proofs.lemmas.Option.{option_and_then_some, slice_get_within, slice_get_past}
 use Rattle.std.proofs.lemmas.List.Quantifiers.{position-Some}
 use Rattle.std.proofs.lemmas.Map.Entries.{length-keys_of}
@@ -17,26 +15,8 @@ use Rattle.tg_graph.specs.Graphs.{Name}
 use Rattle.tg_graph.specs.GraphOf.{graph_of}
 use Rattle.tg_graph.specs.Rows.{Edges, Entries, IsGraph, row_number}
 use Rattle.tg_analysis.specs.Sharing.{linked}
-use Rattle.tg_analysis.specs.Linked.{NeighbourLists, neighbours, is_near, AreLinks, JoinsNeighbours, linked_end, IsBefore, LinksUpTo}
+use Rattle.tg_analysis.specs.Linked.{NeighbourLists, is_near, AreLinks, JoinsNeighbours, linked_end, IsBefore, LinksUpTo}
 use Rattle.tg_analysis.proofs.Places.{position-at, at-position, holds-place, place-holds}
-
-none_near : (n a b : ℕ) → is_near (replicate n []) a b ≡ false
-none_near n a b = ap (list_any (nat_eq b)) (by (cases_lt a n))
-  where
-    by : (a < n) ⊎ (n ≤ a) → neighbours (replicate n []) a ≡ []
-    by (inl h) = get_or-replicate n a [] [] h
-    by (inr h) = get_or-eq_default (replicate n []) [] (omega (arith, length-replicate {A = List ℕ} n []))
-
-pub links-none : (es : Entries) → LinksUpTo es (replicate (length (keys_of es)) []) 0 0
-links-none es = record {
-  len = length-replicate (length (keys_of es)) [];
-  from = λ a b h. absurd (true≢false (sym h ∙ none_near (length (keys_of es)) a b));
-  there = λ a place b h e. absurd (none a place h);
-}
-  where
-    none : (a place : ℕ) → IsBefore a place 0 0 → ⊥
-    none a place (inl h) = omega arith
-    none a place (inr h) = omega arith
 
 -- ---- one more edge
 module _ (es : Entries) (i here : ℕ) where

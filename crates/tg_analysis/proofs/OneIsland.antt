@@ -37,6 +37,3 @@ island_sym g u v a = go u a.0 a.1
     go : (u : Name) (ws : List Name) → IsChain g u ws v → InOneIsland g v u
     go u [] c = subst (λ t. InOneIsland g t u) c.0 (island_refl g u c.1)
     go u (t ∷ ts) c = island_trans g v t u (go t ts c.2) (island_link g t u (starts g t ts v c.2) c.0 (linked_sym g u t c.1))
-
-pub in_graph : (g : ProtectionGraph) (u v : Name) → InOneIsland g u v → IsTrue (has_vertex g u)
-in_graph g u v a = starts g u a.0 v a.1

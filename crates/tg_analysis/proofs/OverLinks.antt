@@ -73,9 +73,6 @@ keeps g rules made e = record {
   triples = e.triples;
 }
 
-pub extends_stay : (g : ProtectionGraph) → Extends g [] []
-extends_stay g = record { accepted = tt; vertices = sym (append-nil g.vertices); triples = λ u right v h. h }
-
 pub extends_then : (g : ProtectionGraph) (rs qs : List Rule) (made more : List Name) → Extends g rs made → Extends (after_all g rs) qs more → Extends g (rs ++ qs) (made ++ more)
 extends_then g rs qs made more a b = record {
   accepted = both_accepted g rs qs a.accepted b.accepted;

@@ -121,12 +121,6 @@ module _ (g : ProtectionGraph) (well : WellFormed g) where
       go true = s
       go false = search-push met u v from s here link
 
-pub search-start : (g : ProtectionGraph) (x : Name) → IsTrue (has_vertex g x) → IsSearch g ((x, 0) ∷ [])
-search-start g x there = record {
-  known = λ v h. elim (or_cases (same_name v x) false h) [ inl e ↦ subst (λ t. IsTrue (has_vertex g t)) (sym (same_bytes v x e)) there | inr e ↦ absurd (true≢false (sym e)) ];
-  trail = λ place v from positive h. let lt : place < 1 = slice_get_within ((x, 0) ∷ []) place (v, from) h in absurd (omega arith);
-}
-
 -- ---- one more place
 module _ (g : ProtectionGraph) (right : Right) (y : Name) where
   pub searched-start : (met : Visits) → IsSearched g right y met 0

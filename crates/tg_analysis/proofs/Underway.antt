@@ -15,15 +15,7 @@ use Rattle.tg_graph.proofs.Rows.{same_bytes}
 use Rattle.tg_analysis.specs.Sharing.{linked}
 use Rattle.tg_analysis.specs.Derivations.{only, IsUnderway, GoesOn, direct_rule, helper_rules}
 use Rattle.tg_analysis.proofs.Helpers.{helper_name-injective}
-use Rattle.tg_analysis.proofs.OverLinks.{Keeps, keeps, Known, stays, Link, takes, granted, grants, taken, link_of, Gives, extends_stay, extends_then, after_both, move_take, move_granted, move_helped}
-
-pub underway_start : (g : ProtectionGraph) (right : Right) (y s : Name) → IsTrue (g.holds s right y) → IsUnderway g right y s [] 0
-underway_start g right y s held = record {
-  made = [];
-  extends = extends_stay g;
-  gives = held;
-  helpers = λ v h. absurd (true≢false (sym h));
-}
+use Rattle.tg_analysis.proofs.OverLinks.{Keeps, keeps, Known, stays, Link, takes, granted, grants, taken, link_of, Gives, extends_then, after_both, move_take, move_granted, move_helped}
 
 abbrev AreHelpersBelow : ℕ → List Name → Type 0
 AreHelpersBelow next made = (v : Name) → IsTrue (list_any (same_name v) made) → (k : ℕ) × (k < next) × (v ≡ helper_name k)

@@ -1,7 +1,6 @@
 -- What a change of one row, or one more vertex, does to the graph.
-use Rattle.std.proofs.Common.{◌≡◌, ℕ, Bool, true, false, cond, List, [], ◌∷◌, ◌++◌, Option, Some, None, refl, sym, ap, subst, ◌∙◌, bytes_eq, IfSome, IsSome, ◌&&◌, ◌||◌, not, unwrap_or, is_some, true≢false, MatchBool, ◌<◌, arith}
+use Rattle.std.proofs.Common.{◌≡◌, ℕ, Bool, true, false, cond, List, [], ◌∷◌, ◌++◌, Option, Some, None, refl, sym, ap, subst, ◌∙◌, bytes_eq, IfSome, IsSome, ◌&&◌, ◌||◌, not, unwrap_or, is_some, true≢false, MatchBool}
 use Rattle.std.specs.Option.{option_map_or}
-use Rattle.std.proofs.lemmas.Bool.Decides.{nat_tests}
 use Rattle.std.proofs.Math.Bool.{or-false, or-true, and-true}
 use Rattle.std.specs.List.{list_any}
 use Rattle.std.specs.Map.{keys_of, lookup}
@@ -11,15 +10,14 @@ use Rattle.std.proofs.lemmas.Map.Made.{is_some-lookup}
 use Rattle.std.specs.List.{IsDistinct}
 use Rattle.tg_graph.specs.declared.right_sets.Right.{Right}
 use Rattle.tg_graph.specs.declared.right_sets.Rights.{Rights}
-use Rattle.tg_graph.specs.Sets.{member, nothing, IsNamed, is_empty_set}
-use Rattle.tg_graph.specs.Additions.{label_between}
-use Rattle.tg_graph.specs.Rows.{Edges, Entries, Adds, TakesAway, ChangesRow, IsGraph, IsRow, IsLabel, label_in, label_of, is_target, has_edge, is_known}
+use Rattle.tg_graph.specs.Sets.{member, nothing}
+use Rattle.tg_graph.specs.Rows.{Edges, Entries, Adds, TakesAway, ChangesRow, IsGraph, IsRow, label_in, label_of, is_target, has_edge, is_known}
 use Rattle.tg_graph.specs.Names.{IsName}
 use Rattle.tg_graph.specs.Graphs.{WellFormed}
 use Rattle.tg_graph.specs.GraphOf.{graph_of}
 use Rattle.tg_graph.specs.Rules.{with_edge, without_edge, with_rights, without_rights, with_vertex}
 use Rattle.tg_graph.proofs.Rows.{symm, same_bytes, row_none}
-use Rattle.tg_graph.proofs.Sets.{member-nothing, where-member}
+use Rattle.tg_graph.proofs.Sets.{member-nothing}
 use Rattle.std.proofs.lemmas.List.{map-append}
 use Rattle.std.proofs.lemmas.List.Folds.{list_any-append}
 use Rattle.std.proofs.lemmas.Map.Keys.{IsDistinct-push}
@@ -101,26 +99,6 @@ module _ (old new : Entries) (x y : List ℕ) (s : Rights) where
   pub is_graph-joined : (added : Bool) → MatchBool added (ChangesRow (λ a b. Adds a b y s) old new x) (new ≡ old) → IsGraph old → is_known old y ≡ true → IsGraph new
   is_graph-joined true c g k = is_graph-adds old new x y s c g k
   is_graph-joined false e g k = subst IsGraph (sym e) g
-
--- an edge is there exactly where its label is not empty
-pub empty-label : (es : Entries) (x y : List ℕ) → IsGraph es → is_empty_set (label_between (graph_of es) x y) ≡ not (has_edge es x y)
-empty-label es x y g = ap is_empty_set (where-member (label_of es x y) (named (lookup (bytes_eq x) es) (g.rows x))) ∙ by (lookup (bytes_eq x) es) (g.rows x)
-  where
-    label : (o : Option Rights) → IfSome o IsLabel → IsNamed (unwrap_or o nothing)
-    label None h = omega arith
-    label (Some s) h = h.named
-
-    named : (o : Option Edges) → IfSome o IsRow → IsNamed (option_map_or (λ row. label_in row y) o nothing)
-    named None h = omega arith
-    named (Some row) h = label (lookup (bytes_eq y) row) (h.labelled y)
-
-    empty : (o : Option Rights) → IfSome o IsLabel → is_empty_set (unwrap_or o nothing) ≡ not (is_some o)
-    empty None h = refl
-    empty (Some s) h = let some : 0 < s.0 = h.some in grind (arith, nat_tests)
-
-    by : (o : Option Edges) → IfSome o IsRow → is_empty_set (option_map_or (λ row. label_in row y) o nothing) ≡ not (option_map_or (λ row. is_target row y) o false)
-    by None h = refl
-    by (Some row) h = empty (lookup (bytes_eq y) row) (h.labelled y)
 
 -- ---- one more vertex
 module _ (n : List ℕ) where

@@ -5,7 +5,7 @@ use Rattle.std.specs.Cmp.Lexicographic.{slice_cmp, nat_list_cmp_total, texts_tie
 use Rattle.std.specs.Ordering.{ordering_reverse, is_eq}
 use Rattle.std.specs.List.{IsDistinct}
 use Rattle.std.specs.List.Sorted.{IsSorted, IsStrictlySortedBy}
-use Rattle.std.proofs.lemmas.Map.Keys.{sorted_from_all_adjacent, Less-from_sorted, apart_from_distinct}
+use Rattle.std.proofs.lemmas.Map.Keys.{sorted_from_all_adjacent, apart_from_distinct}
 
 abbrev name_cmp : List ℕ → List ℕ → Ordering
 name_cmp = slice_cmp nat_cmp
@@ -25,7 +25,3 @@ strict_from_sorted ks up apart =
 
 pub not_less : (r s : Ordering) → r ≡ Less → s ≡ ordering_reverse r → is_lt s ≡ false
 not_less r s e f = ap is_lt (f ∙ ap ordering_reverse e)
-
-pub sorted_from_strict : (ks : List (List ℕ)) → IsStrictlySortedBy (slice_cmp nat_cmp) ks → IsSorted (slice_cmp nat_cmp) ks
-sorted_from_strict ks up k d l h =
-    not_less _ _ (Less-from_sorted (slice_cmp nat_cmp) ks k (k + 1) d up (omega arith) h) (nat_list_cmp_total.antisymm (get_or ks (k + 1) d) (get_or ks k d))

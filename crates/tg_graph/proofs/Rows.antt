@@ -1,6 +1,6 @@
 -- Rows.
-use Rattle.std.proofs.Common.{◌≡◌, ℕ, Bool, true, false, cond, List, [], Option, Some, None, refl, sym, ap, subst, ◌∙◌, bytes_eq, IfSome, ◌&&◌, ◌||◌, not, unwrap_or, is_some, bit_or, bit_and, w8, ◌<◌, arith, nat_cmp, Result, Ok, Err, IsOk, OnOk, true≢false}
-use Rattle.std.specs.Map.{keys_of, lookup}
+use Rattle.std.proofs.Common.{◌≡◌, ℕ, Bool, true, false, cond, List, [], Option, Some, None, refl, sym, ap, subst, ◌∙◌, bytes_eq, IfSome, ◌&&◌, ◌||◌, not, unwrap_or, is_some, bit_or, bit_and, w8, ◌<◌, arith, Result, Ok, Err, IsOk, OnOk, true≢false}
+use Rattle.std.specs.Map.{lookup}
 use Rattle.std.specs.List.Sorted.{IsStrictlySortedBy}
 use Rattle.tg_graph.specs.declared.right_sets.Rights.{Rights}
 use Rattle.tg_graph.specs.Rows.{Edges, IsRow, IsLabel, AreLabelled, Puts, Adds, TakesAway, label_in, is_target}
@@ -10,7 +10,6 @@ use Rattle.tg_graph.proofs.Sets.{member-union, named-union, member-nothing, memb
 use Rattle.std.specs.Int.{bit_not}
 use Rattle.std.proofs.Math.Bool.{or-false, or-true, and-true}
 use Rattle.std.specs.Int.Bits.{or_zero_l}
-use Rattle.std.specs.Cmp.Lexicographic.{slice_cmp}
 use Rattle.std.specs.Cmp.Lexicographic.{nat_list_eq_equiv}
 use Rattle.std.proofs.lemmas.Slice.Eq.{bytes_eq-Decides}
 use Rattle.std.proofs.lemmas.Nat.{le_or_r, and_le_l}
@@ -108,9 +107,6 @@ target_from_label row y = by (lookup (bytes_eq y) row)
     by : (o : Option Rights) → 0 < (unwrap_or o nothing).0 → is_some o ≡ true
     by None h = absurd (omega arith)
     by (Some s) h = refl
-
-pub strict_same_keys : (es fs : Edges) → keys_of fs ≡ keys_of es → IsStrictlySortedBy (slice_cmp nat_cmp) (keys_of es) → IsStrictlySortedBy (slice_cmp nat_cmp) (keys_of fs)
-strict_same_keys es fs e h = subst (IsStrictlySortedBy (slice_cmp nat_cmp)) (sym e) h
 
 -- the label after `difference`, as what is left of an edge or as no edge
 pub taken-left : (old new : Edges) (y : List ℕ) (s left : Rights) → left.0 ≡ bit_and (label_in old y).0 (bit_not w8 s.0) → IsNamed s → 0 < left.0 → Puts old new y (Some left) → TakesAway old new y s

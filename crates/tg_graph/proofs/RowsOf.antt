@@ -87,10 +87,6 @@ pub row_of-unique : (g h : ProtectionGraph) (u : Name) (one other : Edges) → S
 row_of-unique g h u one other s r q =
     same_edges one other r.sorted q.sorted (λ v. r.edges v ∙ (λ i. unless_empty (label_between (record { vertices = g.vertices; holds = λ w right z. s.triples w right z i }) u v)) ∙ sym (q.edges v))
 
--- the label of each edge of the row
-pub row_of-label : (g : ProtectionGraph) (u : Name) (row : Edges) (place : ℕ) (v : Name) (s : Rights) → IsRowOf g u row → slice_get row place ≡ Some (v, s) → unless_empty (label_between g u v) ≡ Some s
-row_of-label g u row place v s r e = sym (r.edges v) ∙ lookup_from_place nat_list_eq_equiv row place v s (distinct_from_up row r.sorted) e
-
 named_entry : (es : Entries) (u : List ℕ) (position : ℕ) (o : Option (List ℕ × Edges)) → IsGraph es → slice_get es position ≡ o → option_map (λ (e : List ℕ × Edges). e.0) o ≡ Some u → IsRowOf (graph_of es) u (option_map_or (λ (e : List ℕ × Edges). e.1) o [])
 named_entry es u position None g e n = absurd (none-some u n)
 named_entry es u position (Some (name, row)) g e n =

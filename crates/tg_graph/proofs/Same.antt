@@ -7,13 +7,9 @@ use Rattle.tg_graph.specs.declared.rules.Rule.{Rule}
 use Rattle.tg_graph.specs.declared.rules.Rule.TheVariants.{Take, Grant, Create, Remove}
 use Rattle.tg_graph.specs.declared.rules.Refusal.TheVariants.{Unknown, Taken, Empty, NoTake, NoGrant}
 use Rattle.tg_graph.specs.Sets.{member, rights_where, is_empty_set}
-use Rattle.tg_graph.specs.Graphs.{ProtectionGraph, SameGraph, has_vertex}
+use Rattle.tg_graph.specs.Graphs.{ProtectionGraph, SameGraph}
 use Rattle.tg_graph.specs.Rules.{refusal_of, after, refused_if, not_held, with_edge, without_edge}
 use Rattle.tg_graph.specs.Additions.{Leads}
-
--- equal graphs are the same
-pub same_from_equal : (g h : ProtectionGraph) → g ≡ h → SameGraph g h
-same_from_equal g h e = record { vertices = λ v i. has_vertex (e i) v; triples = λ u right v i. (e i).holds u right v }
 
 module _ (g h : ProtectionGraph) (s : SameGraph g h) where
   -- what decides a refusal is read at the two tests alone

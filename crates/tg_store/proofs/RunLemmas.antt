@@ -13,7 +13,7 @@ use Rattle.tg_store.specs.declared.events.HallReply.{HallReply}
 use Rattle.tg_store.specs.declared.events.HallReply.TheVariants as reply
 use Rattle.tg_store.specs.declared.events.HallFault.TheVariants.{NoSeat, NotOpen, Changed, Crowded, JournalFull, Memory}
 use Rattle.tg_store.specs.Worlds.{World, SeatView, seat_of, seat_in, rests_on, with_seat, Moves, Happens, Run, Learns, TakesIn, Puts, Joins}
-use Rattle.tg_store.specs.Acts.{is_learned, MayLearn, Repeats, OpensAfter}
+use Rattle.tg_store.specs.Acts.{is_learned, MayLearn, Repeats}
 use Rattle.tg_store.proofs.HallLemmas.{replicate-push}
 
 -- a run goes on by one event
@@ -148,12 +148,3 @@ repeated-end w v event answer r e = record {
   run = run-push w r.mid v (replicate (length r.places) event) (map reply.Learned r.places) event answer r.run r.last;
   last = e;
 }
-
--- a seat that has not taken in all opens no session
-pub opens_not : (mid : World) (k : ℕ) (told : HallReply) → (told ≡ reply.Nothing → ⊥) → OpensAfter mid k told told mid
-opens_not mid k reply.Nothing n = absurd (n refl)
-opens_not mid k (reply.Learned place) n = (refl, refl)
-opens_not mid k reply.Done n = (refl, refl)
-opens_not mid k (reply.Said answer) n = (refl, refl)
-opens_not mid k (reply.Put place) n = (refl, refl)
-opens_not mid k (reply.Refused fault) n = (refl, refl)

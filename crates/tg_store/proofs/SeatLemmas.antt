@@ -41,13 +41,6 @@ session-clear base next committed o p on e apart is clear laid = record {
     fits : name_count ((after_steps (graph_of base) committed).vertices ++ creates (graph_of base) o.kept.items) ≤ most_vertices
     fits = let h = clear.1 in omega (arith, h)
 
--- a seat on the same graph, with as many records
-pub rests-same : (g : ProtectionGraph) (history : List Record) (s t : SeatState) → t.taken ≡ s.taken → t.graph ≡ s.graph → Rests g history s → Rests g history t
-rests-same g history s t e f r = record {
-  within = omega (arith, r.within, e);
-  replayed = ap graph_of f ∙ r.replayed ∙ ap (λ n. replay g (take n history)) (sym e);
-}
-
 -- a seat that has taken in one record more
 pub rests-next : (g : ProtectionGraph) (history : List Record) (s t : SeatState) (r : Record) → slice_get history s.taken ≡ Some r → t.taken ≡ s.taken + 1 → graph_of t.graph ≡ after_steps (graph_of s.graph) r.steps → Rests g history s → Rests g history t
 rests-next g history s t r is e f h = record {

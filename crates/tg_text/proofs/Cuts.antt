@@ -1,5 +1,5 @@
 -- The first line of a text, and the first word of a line.
-use Rattle.std.proofs.Common.{◌≡◌, refl, ap, ℕ, zero, suc, ◌+◌, ◌<◌, ◌≤◌, true, false, not, eqb, List, [], ◌∷◌, take, drop, length, get_or, arith}
+use Rattle.std.proofs.Common.{◌≡◌, refl, ap, ℕ, zero, suc, ◌<◌, ◌≤◌, true, false, not, eqb, List, [], ◌∷◌, take, drop, length, get_or, arith}
 use Rattle.std.specs.List.{onto_first}
 use Rattle.std.proofs.lemmas.Bool.{ne_eqb, not-true}
 use Rattle.std.proofs.lemmas.List.{drop_more}
@@ -22,13 +22,6 @@ one_line (b ∷ c ∷ bs) others some =
     let other : eqb b 10 ≡ false = ne_eqb b 10 (others 0 (omega arith)) in
     let rest = one_line (c ∷ bs) (λ k lt. others (suc k) (omega arith)) (omega arith) in
     rw other (ap (onto_first b) rest)
-
--- a blank at the front stands in no word
-pub after_blank : (bytes : List ℕ) (i : ℕ) → i < length bytes → is_blank (get_or bytes i 0) ≡ true → words_of (drop (i + 1) bytes) ≡ words_of (drop i bytes)
-after_blank bytes i inside blank = rw (drop_more bytes i 0 inside, blank) refl
-
-pub word_begins : (bytes : List ℕ) (i : ℕ) → i < length bytes → is_blank (get_or bytes i 0) ≡ false → begins_with_word (drop i bytes) ≡ true
-word_begins bytes i inside part = rw (drop_more bytes i 0 inside, part) refl
 
 pub no_word_begins : (bytes : List ℕ) (i : ℕ) → i < length bytes → is_blank (get_or bytes i 0) ≡ true → begins_with_word (drop i bytes) ≡ false
 no_word_begins bytes i inside blank = rw (drop_more bytes i 0 inside, blank) refl

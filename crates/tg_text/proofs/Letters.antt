@@ -1,11 +1,10 @@
 -- Letters written one by one.
-use Rattle.std.proofs.Common.{◌≡◌, ℕ, ◌+◌, ◌<◌, ◌≤◌, Bool, true, false, List, [], ◌∷◌, ◌++◌, drop, length, get_or, refl, sym, ap, ◌∙◌, if◌then◌else◌, arith}
+use Rattle.std.proofs.Common.{◌≡◌, ℕ, ◌+◌, ◌<◌, ◌≤◌, Bool, true, false, List, [], ◌∷◌, drop, length, get_or, sym, ap, ◌∙◌, if◌then◌else◌, arith}
 use Rattle.std.proofs.lemmas.List.{at_drop_more}
 use Rattle.tg_graph.specs.declared.right_sets.Right.{Right}
 use Rattle.tg_graph.specs.declared.right_sets.Rights.{Rights}
 use Rattle.tg_graph.specs.Sets.{member}
 use Rattle.tg_graph.specs.Letters.{letters_among, letter_of}
-use Rattle.tg_text.specs.Spelling.{or_dash}
 
 abbrev after_one : Bool → ℕ → List ℕ → List ℕ
 after_one b letter rest = if b then letter ∷ rest else rest
@@ -21,11 +20,3 @@ length-letters s (right ∷ rights) =
       | true ↦ omega (arith, length-letters s rights)
       | false ↦ omega (arith, length-letters s rights)
     ]
-
-pub dash-some : (bs : List ℕ) → 0 < length bs → or_dash bs ≡ bs
-dash-some [] h = absurd (omega arith)
-dash-some (b ∷ bs) h = refl
-
-pub dash-none : (bs : List ℕ) → length bs ≡ 0 → or_dash bs ≡ bs ++ 45 ∷ []
-dash-none [] h = refl
-dash-none (b ∷ bs) h = absurd (omega arith)
