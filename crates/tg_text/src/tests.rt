@@ -1,10 +1,25 @@
 use crate::faults::{TextFault, TextKind};
 use crate::graph_text::read_graph;
+use crate::lines::{cut_line, cut_word};
 use crate::rule_text::{read_rule, read_rules};
 use crate::script_text::read_script;
 use std::alloc::{AllocError, Global};
 use std::test::Fail;
 use tg_graph::{Act, Name, Rights, Rule};
+
+#[test]
+fn a_line_and_its_words(rt: HostRuntime) {
+    let (line, rest) = cut_line(b" a\tbc\r\n\nd");
+    assert!(rt; line == b" a\tbc\r".as_slice());
+    assert!(rt; rest == b"\nd".as_slice());
+    let words = cut_word(b" a\tbc\r");
+    assert!(rt; words.is_some());
+    if let Some((word, others)) = words {
+        assert!(rt; word == b"a".as_slice());
+        assert!(rt; others == b"\tbc\r".as_slice());
+    }
+    assert!(rt; cut_word(b"\t \r").is_none());
+}
 
 #[test]
 fn graph_faults(rt: HostRuntime) {
@@ -61,7 +76,7 @@ fn script_faults(rt: HostRuntime) {
     }
 }
 
-fn name(bytes: &[u8]) -> Name {
+pub(crate) fn name(bytes: &[u8]) -> Name {
     match Name::parse(bytes) {
         Ok(name) => name,
         Err(_) => Name::helper(0),

@@ -1,15 +1,11 @@
-use crate::{append_number, read_graph, read_rule, write_graph, write_reply, write_rule};
+use crate::tests::name;
+use crate::{
+    append_number, names_in_order, read_graph, read_rule, write_graph, write_reply, write_rule,
+};
 use std::alloc::{AllocError, Global};
 use std::process::Abort;
 use std::test::Fail;
-use tg_graph::{Name, Refusal, Reply, Right, Rights};
-
-fn name(bytes: &[u8]) -> Name {
-    match Name::parse(bytes) {
-        Ok(name) => name,
-        Err(_) => Name::helper(7),
-    }
-}
+use tg_graph::{Refusal, Reply, Right, Rights};
 
 fn replies(rt: &impl Abort, alloc: Global, reply: Reply, text: &[u8]) -> Result<(), AllocError> {
     let written = write_reply(alloc, &reply)?;
@@ -80,6 +76,15 @@ fn a_canonical_text(rt: HostRuntime) -> Result<(), Fail> {
     let graph = read_graph(rt.alloc(), b"vertex b\nvertex a\nedge b a gt\n")?;
     let text = write_graph(rt.alloc(), &graph)?;
     assert!(rt; text.as_slice() == b"vertex a\nvertex b\nedge b a tg\n".as_slice());
+    Ok(())
+}
+
+#[test]
+fn names_digits_first(rt: HostRuntime) -> Result<(), Fail> {
+    let graph = read_graph(rt.alloc(), b"vertex ab\nvertex a9\nvertex a_\nvertex a\n")?;
+    let names = names_in_order(rt.alloc(), &graph)?;
+    let rising = [name(b"a"), name(b"a9"), name(b"a_"), name(b"ab")];
+    assert!(rt; names.as_slice() == rising.as_slice());
     Ok(())
 }
 
