@@ -1,15 +1,15 @@
 //! Protection graphs.
-ghost use Rattle.std.specs.Prelude.{◌≡◌, ◌<◌, ◌≤◌, ◌++◌, ◌∷◌, [], Some, None, true, false, IsTrue, IfOk, OnOk, OnErr, IsSome, bytes_eq, length, slice_get, position};
-ghost use Rattle.std.specs.Map.{lookup, keys_of};
+ghost use Rattle.std.specs.Prelude.{◌≡◌, ◌<◌, ◌++◌, ◌∷◌, [], Some, None, true, false, IfOk, OnOk, OnErr, bytes_eq, length, slice_get, position};
+ghost use Rattle.std.specs.Map.{keys_of};
 ghost use Rattle.indexmap.specs.IndexMap.{spare};
-ghost use Rattle.tg_graph.specs.Sets.{member, IsNamed};
+ghost use Rattle.tg_graph.specs.Sets.{IsNamed};
 ghost use Rattle.tg_graph.specs.Rows.{label_of, is_known, has_edge, IsLabel, IsGraph, row_number, Adds, TakesAway, ChangesRow};
 ghost use Rattle.tg_graph.specs.Graphs.{has_vertex, WellFormed};
 ghost use Rattle.tg_graph.specs.GraphOf.{graph_of};
 ghost use Rattle.tg_graph.specs.Rules.{refusal_of, verdict, not_held, Applies, rights_of, with_rights, without_rights, with_vertex, after};
-ghost use Rattle.tg_graph.specs.Sets.{rights_where, is_empty_set};
+ghost use Rattle.tg_graph.specs.Sets.{is_empty_set};
 ghost use Rattle.tg_graph.specs.Additions.{AddsVertex, AddsEdge, label_at, label_between, Runs, AreNamed};
-ghost use Rattle.std.specs.Prelude.{not, ◌&&◌, MatchResult, MatchBool, if◌then◌else◌};
+ghost use Rattle.std.specs.Prelude.{not, MatchBool, if◌then◌else◌};
 
 use crate::names::Name;
 use crate::right_sets::{Right, Rights};

@@ -1,6 +1,6 @@
 //! Lines and words.
 ghost use Rattle.std.specs.Prelude.{◌≡◌, ◌<◌, ◌≤◌, ◌∷◌, ◌++◌, [], nat_lt, true, false, take, drop, length, MatchOption, IfSome};
-ghost use Rattle.tg_text.specs.Lines.{lines_of, words_of, is_blank, begins_with_word, begins_with_hash, is_skipped};
+ghost use Rattle.tg_text.specs.Lines.{lines_of, words_of, is_blank, begins_with_word, begins_with_hash};
 ghost use Rattle.tg_text.specs.Reading.{Sees, content_of};
 ghost use Rattle.std.specs.Option.{option_copied};
 
