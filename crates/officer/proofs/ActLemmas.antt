@@ -1,6 +1,6 @@
 -- What an act leaves as it was, and how it may end.
-use Rattle.std.proofs.Common.{◌≡◌, ◌⊎◌, inl, inr, ℕ, ◌+◌, ◌-◌, ◌<◌, ◌≤◌, ◌==◌, ◌++◌, Bool, true, false, MatchBool, List, [], ◌∷◌, length, map, replicate, Option, None, Some, MatchOption, refl, sym, ap, subst, ◌∙◌, arith, true≢false}
-use Rattle.std.specs.Prelude.{slice_get, slice_set, if◌then◌else◌}
+use Rattle.std.proofs.Common.{◌≡◌, inl, inr, ℕ, ◌-◌, ◌<◌, ◌≤◌, ◌==◌, ◌++◌, Bool, true, false, MatchBool, List, [], ◌∷◌, length, map, replicate, Option, None, Some, MatchOption, refl, sym, ap, subst, ◌∙◌, arith, true≢false}
+use Rattle.std.specs.Prelude.{slice_get, if◌then◌else◌}
 use Rattle.std.proofs.lemmas.Bool.{eqb-true}
 use Rattle.std.proofs.lemmas.List.{length-set}
 use Rattle.std.proofs.lemmas.Option.{slice_get_cases}
@@ -15,7 +15,7 @@ use Rattle.tg_store.specs.declared.events.Event.TheVariants.{Begin, Learn, Stage
 use Rattle.tg_store.specs.declared.events.HallReply.{HallReply}
 use Rattle.tg_store.specs.declared.events.HallReply.TheVariants as reply
 use Rattle.tg_store.specs.declared.events.HallFault.TheVariants.{NoSeat, AlreadyOpen, NotOpen, Changed, Crowded, JournalFull, Memory}
-use Rattle.tg_store.specs.Worlds.{World, SeatView, seat_of, seat_in, rests_on, with_seat, Opens, Begins, TakesIn, Learns, Says, Stages, Aborts, Joins, Puts, Moves, Happens, Run}
+use Rattle.tg_store.specs.Worlds.{World, SeatView, seat_of, seat_in, rests_on, with_seat, Opens, TakesIn, Learns, Says, Joins, Puts, Moves, Happens, Run}
 use Rattle.tg_store.specs.Acts.{is_learned, is_free, Repeats, OpensAfter, CatchesUp, Acts}
 use Rattle.officer.specs.Outcomes.{MayBeTold}
 

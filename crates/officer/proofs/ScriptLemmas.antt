@@ -1,5 +1,5 @@
 -- Events of a script, played one after another.
-use Rattle.std.proofs.Common.{◌≡◌, ℕ, ◌+◌, ◌<◌, List, [], ◌∷◌, ◌++◌, length, take, get_or, All, refl, sym, ap, subst, ◌∙◌, append_assoc}
+use Rattle.std.proofs.Common.{◌≡◌, ℕ, ◌+◌, ◌<◌, List, [], ◌∷◌, ◌++◌, length, take, get_or, refl, sym, ap, subst, ◌∙◌, append_assoc}
 use Rattle.std.proofs.lemmas.List.{append-nil, take_more}
 use Rattle.tg_graph.specs.declared.session.Act.{Act}
 use Rattle.tg_graph.specs.declared.session.Act.TheVariants.{Begin, Stage, Commit, Abort}
@@ -9,7 +9,7 @@ use Rattle.tg_text.specs.ScriptText.{ScriptOf, IsNamedAct, AreNamedEvents, IsWit
 use Rattle.tg_store.specs.Acts.{IsStageableAct}
 use Rattle.tg_store.specs.Worlds.{World}
 use Rattle.officer.specs.Runs.{IsOutcome, Plays}
-use Rattle.officer.specs.Outcomes.{IsPlayable, IsPlayableScript}
+use Rattle.officer.specs.Outcomes.{IsPlayableScript}
 use Rattle.officer.proofs.ActLemmas.{acts_keep}
 
 stageable : (act : Act) → IsNamedAct act → IsStageableAct act

@@ -10,6 +10,8 @@ mod island_lines;
 pub mod laws;
 #[cfg(test)]
 mod limit_tests;
+#[cfg(test)]
+mod memory_tests;
 pub mod outcome;
 mod outcome_lines;
 mod parts;

@@ -10,6 +10,8 @@ pub mod flooding;
 #[cfg(test)]
 mod island_tests;
 pub mod links;
+#[cfg(test)]
+mod memory_tests;
 mod met;
 mod moves;
 pub mod numbering;

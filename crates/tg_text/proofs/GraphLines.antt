@@ -1,11 +1,10 @@
 -- The lines of the edges out of one vertex of a graph.
-use Rattle.std.proofs.Common.{◌≡◌, ℕ, ◌-◌, true, false, arith, unwrap_or, List, [], ◌∷◌, Option, None, Some, refl, sym, ap, subst, ◌∙◌, bytes_eq, nat_cmp, IfSome}
-use Rattle.std.specs.Cmp.Lexicographic.{slice_cmp, nat_list_eq_equiv, texts_ties}
+use Rattle.std.proofs.Common.{◌≡◌, ℕ, ◌-◌, true, false, arith, unwrap_or, List, [], ◌∷◌, Option, None, Some, refl, ap, subst, ◌∙◌, bytes_eq, IfSome}
+use Rattle.std.specs.Cmp.Lexicographic.{nat_list_eq_equiv}
 use Rattle.std.specs.Option.{option_map_or}
-use Rattle.std.specs.List.{IsDistinct, flat_map, slice_get, position}
+use Rattle.std.specs.List.{flat_map, slice_get, position}
 use Rattle.std.specs.Map.{keys_of, lookup}
 use Rattle.std.proofs.lemmas.Map.Entries.{lookup_from_place}
-use Rattle.std.proofs.lemmas.Map.Keys.{IsDistinct-from_sorted}
 use Rattle.std.proofs.lemmas.Map.Made.{is_some-lookup}
 use Rattle.tg_graph.specs.declared.right_sets.Rights.{Rights}
 use Rattle.tg_graph.specs.Graphs.{Name}

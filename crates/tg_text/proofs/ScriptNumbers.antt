@@ -1,6 +1,6 @@
 -- The numbers of a script are within their limits.
-use Rattle.std.proofs.Common.{◌≡◌, ℕ, ◌+◌, ◌-◌, ◌*◌, ◌<◌, ◌≤◌, Bool, true, false, cond, eqb, ltb, List, [], ◌∷◌, ◌++◌, length, Option, None, Some, All, refl, sym, ap, subst, ◌∙◌, arith}
-use Rattle.std.specs.Prelude.{Result, Ok, nat_le, ◌&&◌, ◌||◌}
+use Rattle.std.proofs.Common.{◌≡◌, ℕ, ◌+◌, ◌-◌, ◌*◌, ◌<◌, ◌≤◌, Bool, true, false, cond, eqb, ltb, List, [], ◌∷◌, length, Option, None, Some, All, refl, sym, ap, subst, ◌∙◌, arith}
+use Rattle.std.specs.Prelude.{Result, Ok, ◌||◌}
 use Rattle.std.specs.Bool.{MatchBool}
 use Rattle.std.proofs.lemmas.Bool.{or_parts}
 use Rattle.std.proofs.lemmas.Bool.Decides.{nat_tests}
@@ -93,5 +93,5 @@ pub read_is_within : (text rest : List ℕ) (n : ℕ) (header : Header) (lines :
 unfolding script_text
 read_is_within text rest n header lines seats cells none whole so_far =
     let ended : read (Whole seats cells, lines) ≡ after_lines script_item 1 (Nothing, []) (lines_of text) =
-        ap (λ (h : Header). read (h, lines)) (sym whole) ∙ (ap (λ (b : List ℕ). after_lines script_item n (header, lines) (lines_of b)) (sym none) ∙ so_far) in
+    ap (λ (h : Header). read (h, lines)) (sym whole) ∙ (ap (λ (b : List ℕ). after_lines script_item n (header, lines) (lines_of b)) (sym none) ∙ so_far) in
     script_is_within text (record { seats = seats; cells = cells; lines = lines }) (ap (λ (r : Result (Header × List ScriptLine) (ℕ × TextKind)). r >>= λ script. with_header (length (lines_of text) + 1) script) (sym ended))

@@ -2,7 +2,6 @@ use Rattle.std.proofs.Common.{refl, ap, subst, ◌∙◌, ◌++◌}
 use Rattle.tg_graph.specs.GraphOf.{graph_of}
 use Rattle.tg_text.specs.Canonical.{canonical_text}
 use Rattle.tg_store.specs.Histories.{replay, IsLegal}
-use Rattle.officer.specs.Readings.{ReportText}
 use Rattle.officer.specs.Runs.{Plays}
 use Rattle.officer.proofs.ScriptLemmas.{plays_keep}
 use Rattle.officer.proofs.running.played.Goals as goal

@@ -1,0 +1,88 @@
+// Each test passes whichever one request for memory is refused: `rt try --test --fail-alloc N -- memory_tests`, for N from
+// 1 on. Where a call was refused memory, its second try has it.
+ghost use Rattle.tg_graph.specs.Sets.{IsNamed};
+
+use crate::answers::can_share;
+use crate::derivations::derivation;
+use crate::flooding::islands;
+use crate::questions::AskFault;
+use std::alloc::Global;
+use std::process::Abort;
+use std::test::Fail;
+use tg_graph::{EdgeFault, Graph, Name, Right, Rights, Rule, VertexFault};
+
+fn added(graph: &mut Graph, name: Name) -> Result<(), VertexFault> {
+    if graph.add_vertex(name).is_err() {
+        graph.add_vertex(name)?;
+    }
+    Ok(())
+}
+
+fn joined(graph: &mut Graph, x: Name, y: Name, rights: Rights) -> Result<(), EdgeFault>
+    requires { IsNamed rights }
+{
+    if graph.add_edge(x, y, rights).is_err() {
+        graph.add_edge(x, y, rights)?;
+    }
+    Ok(())
+}
+
+// _0 has g over _1, and _1 has r over _2.
+fn three(alloc: Global) -> Result<Graph, Fail> {
+    let mut graph = Graph::new(alloc);
+    for number in 0..3 {
+        added(&mut graph, Name::helper(number))?;
+    }
+    let (x, y, z) = (Name::helper(0), Name::helper(1), Name::helper(2));
+    joined(&mut graph, x, y, Rights::of(Right::G))?;
+    joined(&mut graph, y, z, Rights::of(Right::R))?;
+    Ok(graph)
+}
+
+#[test]
+fn refused_islands(rt: HostRuntime) -> Result<(), Fail> {
+    let graph = three(rt.alloc())?;
+    let islands = match islands(rt.alloc(), &graph) {
+        Ok(islands) => islands,
+        Err(_) => islands(rt.alloc(), &graph)?,
+    };
+    assert!(rt; islands.count() == 2);
+    assert!(rt; islands.of(0) == Some(0) && islands.of(1) == Some(0) && islands.of(2) == Some(1));
+    Ok(())
+}
+
+// Whether _0 can come to have r over _2.
+fn asked(rt: &impl Abort, alloc: Global, graph: &Graph) -> Result<bool, AskFault> {
+    let (x, y) = (Name::helper(0), Name::helper(2));
+    match can_share(alloc, graph, Right::R, x, y) {
+        Ok(answer) => Ok(answer),
+        Err(fault) => {
+            assert!(rt; fault == AskFault::Memory);
+            can_share(alloc, graph, Right::R, x, y)
+        }
+    }
+}
+
+// By which rules.
+fn derived(rt: &impl Abort, alloc: Global, graph: &Graph) -> Result<Option<Vec<Rule>>, AskFault> {
+    let (x, y) = (Name::helper(0), Name::helper(2));
+    match derivation(alloc, graph, Right::R, x, y) {
+        Ok(rules) => Ok(rules),
+        Err(fault) => {
+            assert!(rt; fault == AskFault::Memory);
+            derivation(alloc, graph, Right::R, x, y)
+        }
+    }
+}
+
+#[test]
+fn refused_questions(rt: HostRuntime) -> Result<(), Fail> {
+    let graph = three(rt.alloc())?;
+    assert!(rt; asked(&rt, rt.alloc(), &graph)?);
+    let Some(rules) = derived(&rt, rt.alloc(), &graph)? else {
+        assert!(rt; false);
+        return Ok(());
+    };
+    assert!(rt; rules.len() == 4);
+    Ok(())
+}
