@@ -4,3 +4,4 @@ pub mod IslandTests
 pub mod ReportLaws
 pub mod ActLemmas
 pub mod ScriptLemmas
+pub mod DerivedTexts

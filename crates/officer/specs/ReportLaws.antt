@@ -1,12 +1,16 @@
 -- What the reports' definitions come to.
-use Rattle.std.specs.Prelude.{◌≡◌, ℕ, List, map, take, slice_get, Some, MatchOption}
+use Rattle.std.specs.Prelude.{◌≡◌, ◌≤◌, IsTrue, ℕ, List, length, map, take, slice_get, Some, MatchOption, Ok}
 use Rattle.tg_graph.specs.declared.rules.Refusal.{Refusal}
 use Rattle.tg_graph.specs.declared.rules.Rule.{Rule}
-use Rattle.tg_graph.specs.Graphs.{ProtectionGraph}
+use Rattle.tg_graph.specs.Graphs.{ProtectionGraph, WellFormed}
 use Rattle.tg_graph.specs.Rules.{refusal_of}
 use Rattle.tg_graph.specs.Additions.{Leads}
 use Rattle.tg_text.specs.declared.rule_text.RuleLine.{RuleLine}
-use Rattle.officer.specs.Reports.{Played, played}
+use Rattle.tg_text.specs.RuleText.{rules_text}
+use Rattle.tg_text.specs.Canonical.{canonical_text}
+use Rattle.tg_analysis.specs.Derivations.{IsDerivation}
+use Rattle.officer.specs.Readings.{Question}
+use Rattle.officer.specs.Reports.{Played, played, check_report, derivation_report}
 
 abbrev pub rules_of : List RuleLine → List Rule
 rules_of lines = map (λ line. line.rule) lines
@@ -20,3 +24,19 @@ pub record StopsAtRefusal (g : ProtectionGraph) (rules : List Rule) (p : Played)
 -- rules are carried out up to the first that is refused
 abbrev pub RulesStopAtRefusal : Type 0
 RulesStopAtRefusal = (g : ProtectionGraph) (lines : List RuleLine) → StopsAtRefusal g (rules_of lines) (played g lines)
+
+-- The report is a text of these rules. On the same graph they are carried out whole, and x has the right then.
+pub record GivesTheRight (q : Question) (rules : List Rule) : Type 0 where
+  pub lines : List RuleLine
+  pub read : rules_text (derivation_report rules).bytes ≡ Ok lines
+  pub same : rules_of lines ≡ rules
+  pub status : (played q.graph lines).status ≡ 0
+  pub gives : IsTrue ((played q.graph lines).end.holds q.x q.right q.y)
+
+-- a derivation that is printed can be applied, if its rules are no more than a text may have
+abbrev pub DerivationsGiveTheRight : Type 0
+DerivationsGiveTheRight = (q : Question) (rules : List Rule) → length rules ≤ 65536 → IsDerivation q.graph q.right q.x q.y rules → GivesTheRight q rules
+
+-- the canonical text of a graph that a text may hold is checked as it stands
+abbrev pub CanonicalTextsStay : Type 0
+CanonicalTextsStay = (g : ProtectionGraph) → WellFormed g → length g.vertices ≤ 1024 → check_report (canonical_text g) ≡ Ok (record { bytes = canonical_text g; status = 0 })

@@ -11,7 +11,8 @@ use Rattle.tg_graph.specs.Rules.{refusal_of, after}
 use Rattle.tg_text.specs.declared.rule_text.RuleLine.{RuleLine}
 use Rattle.tg_text.specs.Lines.{lines_of, words_of}
 use Rattle.tg_text.specs.Reading.{◌>>=◌}
-use Rattle.tg_text.specs.Spelling.{reply_words, rule_words}
+use Rattle.tg_text.specs.Spelling.{reply_words}
+use Rattle.tg_text.specs.RoundTrips.{lines_of_rules}
 use Rattle.tg_text.specs.Canonical.{line_of, canonical_text, in_name_order}
 use Rattle.tg_analysis.specs.Sharing.{InOneIsland}
 use Rattle.tg_analysis.specs.Derivations.{IsDerivation}
@@ -90,7 +91,7 @@ IsAnswer q report =
 
 -- a list of rules as a text of rules
 abbrev pub derivation_report : List Rule → ReportText
-derivation_report rules = record { bytes = line_of (codes "#" ∷ codes "yes" ∷ decimal (length rules) ∷ []) ++ flat_map (λ rule. line_of (rule_words rule)) rules; status = 0 }
+derivation_report rules = record { bytes = line_of (codes "#" ∷ codes "yes" ∷ decimal (length rules) ∷ []) ++ lines_of_rules rules; status = 0 }
 
 -- rules that give the right; no exactly where no list of rules does
 abbrev pub IsDerived : Question → ReportText → Type 0

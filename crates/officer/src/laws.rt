@@ -1,7 +1,18 @@
 //! Laws of the reports. Each function does nothing: its contract is the law.
-ghost use Rattle.officer.specs.ReportLaws.{RulesStopAtRefusal};
+ghost use Rattle.officer.specs.ReportLaws.{CanonicalTextsStay, DerivationsGiveTheRight, RulesStopAtRefusal};
 
 /// A report of rules shows those up to the first that is refused, and the graph that they lead to.
 pub fn rules_stop_at_refusal()
     ensures { RulesStopAtRefusal }
+{}
+
+/// The report of a derivation is a text of rules: carried out on the same graph, none is refused, and they give the
+/// right that was asked for.
+pub fn derivations_give_the_right()
+    ensures { DerivationsGiveTheRight }
+{}
+
+/// What is printed of a graph of at most 1,024 vertices by `check` is printed again as it stands.
+pub fn canonical_texts_stay()
+    ensures { CanonicalTextsStay }
 {}

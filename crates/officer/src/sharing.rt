@@ -1,8 +1,6 @@
 //! Questions about sharing.
 ghost use Rattle.std.specs.Prelude.{◌≡◌, ◌++◌, IfOk, OnOk, codes};
-ghost use Rattle.std.specs.List.{flat_map};
-ghost use Rattle.tg_text.specs.Canonical.{line_of};
-ghost use Rattle.tg_text.specs.Spelling.{rule_words};
+ghost use Rattle.tg_text.specs.RoundTrips.{lines_of_rules};
 ghost use Rattle.officer.specs.Readings.{question_in};
 ghost use Rattle.officer.specs.Reports.{IsFor, IsAnswer, IsDerived, derivation_report};
 ghost use Rattle.officer.specs.Outcomes.{Makes, report_text, question_of, IsAskable};
@@ -59,7 +57,7 @@ pub(crate) fn share(
 
 // Appends the lines of rules.
 fn append_rules(text: &mut Vec<u8>, rules: &[Rule]) -> Result<(), AllocError>
-    ensures { OnOk result (text.new.items ≡ text.old.items ++ flat_map (λ rule. line_of (rule_words rule)) rules.now) }
+    ensures { OnOk result (text.new.items ≡ text.old.items ++ lines_of_rules rules.now) }
 {
     for rule in rules {
         append_rule(text, rule)?;

@@ -13,3 +13,4 @@ pub mod RightsBack
 pub mod RuleBack
 pub mod GraphBack
 pub mod ScriptNumbers
+pub mod RulesBack

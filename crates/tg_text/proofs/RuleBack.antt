@@ -37,14 +37,14 @@ three_names-is x y z s p q r n =
     ∙ ap (λ r. r >>= λ z. rights_at (rights_text s) >>= λ s. Ok (x, y, z, s)) (name_at-is z r)
     ∙ ap (λ r. r >>= λ s. Ok (x, y, z, s)) (rights_at-is s n)
 
-words-back : (rule : Rule) → IsRule rule → rule_of_words (rule_words rule) ≡ Ok rule
+pub words-back : (rule : Rule) → IsRule rule → rule_of_words (rule_words rule) ≡ Ok rule
 unfolding rule_of_words
 words-back (Take x y z s) (p, q, r, n) = ap (λ w. w >>= λ a. Ok (Take a.0 a.1 a.2 a.3)) (three_names-is x y z s p q r n)
 words-back (Grant x y z s) (p, q, r, n) = ap (λ w. w >>= λ a. Ok (Grant a.0 a.1 a.2 a.3)) (three_names-is x y z s p q r n)
 words-back (Create x m s) (p, q, n) = ap (λ w. w >>= λ a. Ok (Create a.0 a.1 a.2)) (two_names-is x m s p q n)
 words-back (Remove x y s) (p, q, n) = ap (λ w. w >>= λ a. Ok (Remove a.0 a.1 a.2)) (two_names-is x y s p q n)
 
-plain-rule : (rule : Rule) → IsRule rule → AllByRecursion IsPlainWord (rule_words rule)
+pub plain-rule : (rule : Rule) → IsRule rule → AllByRecursion IsPlainWord (rule_words rule)
 plain-rule (Take x y z s) (p, q, r, n) = (word_from_test (codes "take") refl refl, (name_word x p, (name_word y q, (name_word z r, (rights_word s, tt)))))
 plain-rule (Grant x y z s) (p, q, r, n) = (word_from_test (codes "grant") refl refl, (name_word x p, (name_word y q, (name_word z r, (rights_word s, tt)))))
 plain-rule (Create x m s) (p, q, n) = (word_from_test (codes "create") refl refl, (name_word x p, (name_word m q, (rights_word s, tt))))
@@ -56,7 +56,7 @@ length-two word x s = omega (arith, length-append word (32 ∷ spaced (x ∷ rig
 pub length-more : (word : Word) (next : Word) (words : List Word) → length (spaced (word ∷ next ∷ words)) ≡ length word + 1 + length (spaced (next ∷ words))
 length-more word next words = omega (arith, length-append word (32 ∷ spaced (next ∷ words)))
 
-short-rule : (rule : Rule) → IsRule rule → length (rule_text rule) ≤ 256
+pub short-rule : (rule : Rule) → IsRule rule → length (rule_text rule) ≤ 256
 short-rule (Take x y z s) (p, q, r, n) =
     omega (arith, length-more (codes "take") x (y ∷ z ∷ rights_text s ∷ []), length-more x y (z ∷ rights_text s ∷ []), length-two y z s, p.within, q.within, r.within)
 short-rule (Grant x y z s) (p, q, r, n) =
