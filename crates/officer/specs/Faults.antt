@@ -1,5 +1,5 @@
 -- What the program says where it gives no report.
-use Rattle.std.specs.Prelude.{ℕ, List, codes}
+use Rattle.std.specs.Prelude.{ℕ, List, codes, ⊤}
 use Rattle.officer.specs.declared.fetch.FetchFault.{FetchFault}
 use Rattle.officer.specs.declared.fetch.FetchFault.TheVariants as fetch
 use Rattle.officer.specs.declared.fault.Cause.{Cause}
@@ -28,3 +28,12 @@ abbrev pub cause_of_fetch : FetchFault → Cause → Cause
 cause_of_fetch fetch.Unreadable unreadable = unreadable
 cause_of_fetch fetch.TooLarge unreadable = TooLarge
 cause_of_fetch fetch.Memory unreadable = Memory
+
+-- what may keep an input from being fetched, or a report from being made
+abbrev pub IsOfInputs : Cause → Type 0
+IsOfInputs Graph = ⊤
+IsOfInputs Second = ⊤
+IsOfInputs TooLarge = ⊤
+IsOfInputs Memory = ⊤
+IsOfInputs Write = ⊥
+IsOfInputs Words = ⊥

@@ -1,6 +1,6 @@
 //! What the program does for its command line.
-ghost use Rattle.std.specs.Prelude.{◌≡◌, IfOk, Some, map, string_bytes};
-ghost use Rattle.officer.specs.Faults.{cause_of_fetch};
+ghost use Rattle.std.specs.Prelude.{◌≡◌, ◌⊎◌, IfOk, IfErr, Some, None, map, string_bytes};
+ghost use Rattle.officer.specs.Faults.{cause_of_fetch, IsOfInputs};
 ghost use Rattle.officer.specs.Calls.{call_words, call_of, CallWords};
 ghost use Rattle.officer.specs.Reports.{GivesReport, IsStatus};
 ghost use Rattle.officer.specs.Outcomes.{report_text};
@@ -29,7 +29,9 @@ fn cause_of_fetch(fault: FetchFault, unreadable: Cause) -> Cause
 }
 
 // Want of memory, or the cause that is given.
-fn cause_of_error(error: Error, other: Cause) -> Cause {
+fn cause_of_error(error: Error, other: Cause) -> Cause
+    ensures { (result ≡ Cause.Memory) ⊎ (result ≡ other) }
+{
     match error.kind() {
         ErrorKind::OutOfMemory => Cause::Memory,
         _ => other,
@@ -40,7 +42,9 @@ fn bytes_of<R: Read>(
     rt: &impl AllocGlobal,
     reader: &mut R,
     unreadable: Cause,
-) -> Result<Vec<u8>, Cause> {
+) -> Result<Vec<u8>, Cause>
+    ensures { IsOfInputs unreadable → IfErr result IsOfInputs }
+{
     match fetch(rt.alloc(), reader) {
         Ok(bytes) => Ok(bytes),
         Err(fault) => Err(cause_of_fetch(fault, unreadable)),
@@ -51,7 +55,9 @@ fn bytes_of_file<R: Files + AllocGlobal>(
     rt: &R,
     path: &str,
     unreadable: Cause,
-) -> Result<Vec<u8>, Cause> {
+) -> Result<Vec<u8>, Cause>
+    ensures { IsOfInputs unreadable → IfErr result IsOfInputs }
+{
     match File::open(rt, path) {
         Ok(mut file) => bytes_of(rt, &mut file, unreadable),
         Err(error) => Err(cause_of_error(error, unreadable)),
@@ -60,7 +66,8 @@ fn bytes_of_file<R: Files + AllocGlobal>(
 
 // The report that a call asks for.
 fn answer<R: Input + Files + AllocGlobal>(rt: &R, call: &Call) -> Result<Report, Cause>
-    ensures { IfOk result (λ report. GivesReport (call_words call.now) (report_text report)) }
+    ensures given { IfOk result (λ report. GivesReport (call_words call.now) (report_text report)) }
+    ensures cause { IfErr result IsOfInputs }
 {
     let (command, first, second) = match *call {
         Call::Input => (
@@ -104,7 +111,8 @@ fn slices<'a>(alloc: Global, words: &'a [String]) -> Result<Vec<&'a str>, AllocE
 
 // The report that words ask for.
 fn answer_words<R: Input + Files + AllocGlobal>(rt: &R, words: &[String]) -> Result<Report, Cause>
-    ensures { IfOk result (λ report. (call : CallWords) × (call_of (map string_bytes words.now) ≡ Some call) × GivesReport call (report_text report)) }
+    ensures given { IfOk result (λ report. (call : CallWords) × (call_of (map string_bytes words.now) ≡ Some call) × GivesReport call (report_text report)) }
+    ensures cause { IfErr result (λ cause. IsOfInputs cause ⊎ ((cause ≡ Cause.Words) × (call_of (map string_bytes words.now) ≡ None))) }
 {
     let Ok(words) = slices(rt.alloc(), words) else {
         return Err(Cause::Memory);
