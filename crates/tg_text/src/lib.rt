@@ -21,7 +21,7 @@ mod writing_tests;
 pub use canonical::{names_in_order, write_graph};
 pub use faults::{TextFault, TextKind};
 pub use graph_text::read_graph;
-pub use lines::{cut_line, cut_word};
+pub use lines::{MAX_LINE, cut_line, cut_word};
 pub use rule_text::{RuleLine, read_rule, read_rules};
 pub use script_text::{Script, ScriptLine, read_script};
 pub use spelling::{append_number, append_reply, append_rule, write_reply, write_rule};

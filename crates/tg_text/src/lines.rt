@@ -6,8 +6,8 @@ ghost use Rattle.std.specs.Option.{option_copied};
 
 use crate::faults::TextKind;
 
-// The most bytes of a line.
-pub(crate) const MAX_LINE: usize = 256;
+/// The most bytes of a line, its line feed not counted.
+pub const MAX_LINE: usize = 256;
 
 /// The first line of a text without its line feed, and what stands behind it.
 ///
