@@ -6,3 +6,4 @@ pub mod SeatLemmas
 pub mod HallLemmas
 pub mod RunLemmas
 pub mod Numbers
+pub mod Learning

@@ -26,6 +26,10 @@ pub replay-push : (g : ProtectionGraph) (history : List Record) (r : Record) →
 replay-push g [] r = refl
 replay-push g (x ∷ rest) r = replay-push (after_steps g x.steps) rest r
 
+pub replay-append : (g : ProtectionGraph) (history rest : List Record) → replay g (history ++ rest) ≡ replay (replay g history) rest
+replay-append g [] rest = refl
+replay-append g (x ∷ history) rest = replay-append (after_steps g x.steps) history rest
+
 pub take_next : (history : List Record) (i : ℕ) (r : Record) → slice_get history i ≡ Some r → take (i + 1) history ≡ take i history ++ r ∷ []
 take_next history i r e = take_more history i r (slice_get_within history i r e) ∙ ap (λ b. take i history ++ b ∷ []) (get_or_from_slice_get history i r r e)
 

@@ -84,7 +84,7 @@ moves-left g cells history s t (Stage k step) answer later may m = absurd may
 moves-left g cells history s t (Abort k) answer later may m = absurd may
 
 -- the seat that was written is the one that is read
-seat_of-with : (w : World) (k : ℕ) (s t : SeatView) (later : List Record) → seat_of w k ≡ Some s → seat_of (with_seat w k t later) k ≡ Some t
+pub seat_of-with : (w : World) (k : ℕ) (s t : SeatView) (later : List Record) → seat_of w k ≡ Some s → seat_of (with_seat w k t later) k ≡ Some t
 seat_of-with w k s t later e = by (k == 0) e
   where
     by : (b : Bool) → (if b then None else slice_get w.seats (k - 1)) ≡ Some s → (if b then None else slice_get (slice_set w.seats (k - 1) t) (k - 1)) ≡ Some t

@@ -1,5 +1,5 @@
 -- The fields of a seat, and what is true of them.
-use Rattle.std.specs.Prelude.{◌≡◌, ◌≤◌, List, All, IfSome, take, length, Option, None, Some}
+use Rattle.std.specs.Prelude.{◌≡◌, ◌≤◌, ◌<◌, ℕ, List, All, IfSome, take, length, Option, None, Some}
 use Rattle.std.specs.Option.{option_map}
 use Rattle.tg_graph.specs.Rows.{Entries}
 use Rattle.tg_graph.specs.Graphs.{ProtectionGraph}
@@ -9,7 +9,9 @@ use Rattle.tg_store.specs.declared.seats.SeatState.{SeatState}
 use Rattle.tg_store.specs.declared.records.Record.{Record}
 use Rattle.tg_store.specs.declared.answers.Answered.{Answered}
 use Rattle.tg_store.specs.declared.events.HallFault.{HallFault}
-use Rattle.tg_store.specs.declared.events.HallFault.TheVariants.{Changed, Crowded}
+use Rattle.tg_store.specs.declared.events.HallFault.TheVariants.{Changed, Crowded, Memory}
+use Rattle.tg_store.specs.declared.events.HallReply.{HallReply}
+use Rattle.tg_store.specs.declared.events.HallReply.TheVariants as reply
 use Rattle.tg_store.specs.Touches.{IsClear, IsSpoilt, IsOvercrowded}
 use Rattle.tg_store.specs.StepWords.{IsNamedStep}
 use Rattle.tg_store.specs.Answers.{AreAnswers, after_steps}
@@ -42,3 +44,9 @@ Obstructs g committed s None = IsClear g committed s.session
 Obstructs g committed s (Some (Changed place name)) = (place ≡ s.taken) × IsSpoilt g committed s.session name
 Obstructs g committed s (Some (Crowded place)) = (place ≡ s.taken) × IsOvercrowded g committed s.session
 Obstructs g committed s _ = ⊥
+
+-- all records of a history of that length are taken in; or one is left, and there was no memory
+abbrev pub TakesAll : ℕ → SeatView → HallReply → SeatView → Type 0
+TakesAll count s reply.Nothing t = t ≡ record { taken = count; session = None }
+TakesAll count s (reply.Refused Memory) t = (s.taken < count) × (t ≡ s)
+TakesAll count s _ t = ⊥

@@ -1,5 +1,5 @@
 //! The monitor in one thread.
-ghost use Rattle.std.specs.Prelude.{◌≡◌, ◌+◌, ◌<◌, ◌≤◌, ◌⊎◌, ◌∷◌, ◌++◌, [], ℕ, vec_len, List, All, IfOk, OnOk, OnErr, IfSome, Some, None, MatchOption, length, slice_get, map, replicate};
+ghost use Rattle.std.specs.Prelude.{◌≡◌, ◌+◌, ◌<◌, ◌≤◌, ◌⊎◌, ◌∷◌, ◌++◌, [], true, ℕ, vec_len, List, All, IfOk, OnOk, OnErr, IfSome, Some, None, MatchOption, length, slice_get, map, replicate};
 ghost use Rattle.std.specs.Option.{option_map, option_copied};
 ghost use Rattle.tg_graph.specs.Graphs.{ProtectionGraph};
 ghost use Rattle.tg_graph.specs.GraphOf.{graph_of};
@@ -138,17 +138,6 @@ fn note(replies: &mut Vec<HallReply>, reply: HallReply)
     replies.push_reserved(reply);
 }
 
-// The graph after all records.
-fn replayed(opening: &Graph, records: &[Record]) -> Result<Graph, AllocError>
-    ensures { IfOk result (λ graph. graph_of graph ≡ replay (graph_of opening.now) records.now) }
-{
-    let mut graph = opening.copy()?;
-    for record in records {
-        replays::lay_all(&mut graph, record.steps.as_slice())?;
-    }
-    Ok(graph)
-}
-
 impl Hall {
     /// A hall over a copy of the opening graph, with an empty history of so many cells, and with seats from number 1 on.
     ///
@@ -224,7 +213,7 @@ impl Hall {
         ensures graph { IfOk result (λ graph. graph_of graph ≡ replay (graph_of self.now.opening) self.now.history) }
         ensures legal { IsLegal (graph_of self.now.opening) self.now.history }
     {
-        replayed(&self.opening, self.records.as_slice())
+        replays::replayed(&self.opening, self.records.as_slice())
     }
 
     // One event.
@@ -286,11 +275,23 @@ impl Hall {
         }
     }
 
-    // A seat takes in all that is left, and then opens a session.
+    // A seat without an open session takes in all that is left, as if record by record.
+    fn learn_all(&mut self, seat: u32) -> HallReply
+        requires { is_free self.old seat ≡ true }
+        ensures { Repeats self.old (Event.Learn seat) result self.new }
+    {
+        let Some(i) = index_of(seat, self.seats.len()) else {
+            return HallReply::Refused(HallFault::NoSeat);
+        };
+        self.seats[i].learn_all(self.records.as_slice())
+    }
+
+    // A seat without an open session takes in all that is left, and then opens one.
     fn catch_up(&mut self, seat: u32) -> HallReply
+        requires { is_free self.old seat ≡ true }
         ensures { CatchesUp self.old seat result self.new }
     {
-        let told = self.repeat(&Event::Learn(seat));
+        let told = self.learn_all(seat);
         match told {
             HallReply::Nothing => self.happen(&Event::Begin(seat)),
             other => other,

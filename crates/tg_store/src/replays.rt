@@ -4,9 +4,11 @@ ghost use Rattle.tg_graph.specs.Sets.{IsNamed};
 ghost use Rattle.tg_graph.specs.Rules.{rights_of};
 ghost use Rattle.tg_graph.specs.GraphOf.{graph_of};
 ghost use Rattle.tg_store.specs.StepWords.{IsNamedStep};
+ghost use Rattle.tg_store.specs.Histories.{replay};
 ghost use Rattle.tg_store.specs.Answers.{lack_of_room, session_refusal, IsAnswer, unknown_of_two, after_step, after_steps};
 
 use crate::answers::Answered;
+use crate::records::Record;
 use std::alloc::{AllocError, Global};
 use tg_analysis::can_share;
 use tg_graph::{Graph, Name, Refusal, Reply, Right, Rule, RuleFault, Step};
@@ -151,4 +153,15 @@ pub fn copy_with(graph: &Graph, steps: &[Answered]) -> Result<Graph, AllocError>
     let mut copy = graph.copy()?;
     lay_all(&mut copy, steps)?;
     Ok(copy)
+}
+
+/// The graph after all records.
+pub fn replayed(opening: &Graph, records: &[Record]) -> Result<Graph, AllocError>
+    ensures { IfOk result (λ graph. graph_of graph ≡ replay (graph_of opening.now) records.now) }
+{
+    let mut graph = opening.copy()?;
+    for record in records {
+        lay_all(&mut graph, record.steps.as_slice())?;
+    }
+    Ok(graph)
 }

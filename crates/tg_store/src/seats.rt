@@ -68,7 +68,7 @@ impl OpenSession {
 }
 
 impl SeatState {
-    ghost use Rattle.tg_store.specs.Seats.{seen_seat, IsConsistent, Rests, Obstructs};
+    ghost use Rattle.tg_store.specs.Seats.{seen_seat, IsConsistent, Rests, Obstructs, TakesAll};
 
     /// A seat that has taken in nothing.
     pub fn new(alloc: Global, opening: &Graph) -> Result<SeatState, AllocError>
@@ -249,6 +249,27 @@ impl SeatState {
             self.take_in(&records[self.taken])
         } else {
             HallReply::Nothing
+        }
+    }
+
+    /// Takes in all records that are left, where no session is open. Where memory is refused, nothing has changed.
+    pub fn learn_all(&mut self, records: &[Record]) -> HallReply
+        requires free { (seen_seat self.old).session ≡ None }
+        requires within { self.old.taken ≤ length records.now }
+        ensures takes { TakesAll (length records.now) (seen_seat self.old) result (seen_seat self.new) }
+        ensures rests { (g : ProtectionGraph) → Rests g records.now self.old → Rests g records.now self.new }
+        ensures consistent { IsConsistent self.new }
+    {
+        if self.taken == records.len() {
+            return HallReply::Nothing;
+        }
+        match replays::replayed(&self.graph, &records[self.taken..]) {
+            Ok(graph) => {
+                self.graph = graph;
+                self.taken = records.len();
+                HallReply::Nothing
+            }
+            Err(_) => HallReply::Refused(HallFault::Memory),
         }
     }
 

@@ -3,7 +3,7 @@ use Rattle.std.proofs.lemmas.Option.{slice_get_read}
 use Rattle.tg_graph.specs.GraphOf.{graph_of}
 use Rattle.tg_store.specs.Answers.{after_steps}
 use Rattle.tg_store.proofs.Ordered.{replay-next}
-use Rattle.tg_store.proofs.halls.replayed.Goals as goal
+use Rattle.tg_store.proofs.replays.replayed.Goals as goal
 
 pub loop-record-preserved : goal.loop-record-preserved
 loop-record-preserved c =
