@@ -1,8 +1,9 @@
 -- What the program says where it gives no report.
-use Rattle.std.specs.Prelude.{ℕ, List, codes, ⊤}
+use Rattle.std.specs.Prelude.{◌≡◌, ◌⊎◌, ℕ, List, codes, Option, None, Some}
 use Rattle.officer.specs.declared.fetch.FetchFault.{FetchFault}
 use Rattle.officer.specs.declared.fetch.FetchFault.TheVariants as fetch
 use Rattle.officer.specs.declared.fault.Cause.{Cause}
+use Rattle.officer.specs.Calls.{CallWords, Input, File, Files}
 use Rattle.officer.specs.declared.fault.Cause.TheVariants.{Graph, Second, TooLarge, Memory, Write, Words}
 
 -- the line on standard error
@@ -29,11 +30,17 @@ cause_of_fetch fetch.Unreadable unreadable = unreadable
 cause_of_fetch fetch.TooLarge unreadable = TooLarge
 cause_of_fetch fetch.Memory unreadable = Memory
 
--- what may keep an input from being fetched, or a report from being made
-abbrev pub IsOfInputs : Cause → Type 0
-IsOfInputs Graph = ⊤
-IsOfInputs Second = ⊤
-IsOfInputs TooLarge = ⊤
-IsOfInputs Memory = ⊤
-IsOfInputs Write = ⊥
-IsOfInputs Words = ⊥
+-- what may keep an input from being fetched; an unreadable one has a cause of its own
+abbrev pub StopsInput : Cause → Cause → Type 0
+StopsInput unreadable cause = (cause ≡ unreadable) ⊎ (cause ≡ TooLarge) ⊎ (cause ≡ Memory)
+
+-- what may keep the report of a call from being made
+abbrev pub StopsCall : CallWords → Cause → Type 0
+StopsCall Input cause = StopsInput Graph cause
+StopsCall (File command graph) cause = StopsInput Graph cause
+StopsCall (Files command graph file) cause = StopsInput Graph cause ⊎ (cause ≡ Second)
+
+-- what may keep the report that words ask for from being made: they have no form, or there was no memory, or what stops their call
+abbrev pub StopsWords : Option CallWords → Cause → Type 0
+StopsWords None cause = (cause ≡ Words) ⊎ (cause ≡ Memory)
+StopsWords (Some call) cause = StopsCall call cause

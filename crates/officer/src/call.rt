@@ -1,6 +1,6 @@
 //! What the program does for its command line.
-ghost use Rattle.std.specs.Prelude.{◌≡◌, ◌⊎◌, IfOk, IfErr, Some, None, map, string_bytes};
-ghost use Rattle.officer.specs.Faults.{cause_of_fetch, IsOfInputs};
+ghost use Rattle.std.specs.Prelude.{◌≡◌, ◌⊎◌, IfOk, IfErr, Some, map, string_bytes};
+ghost use Rattle.officer.specs.Faults.{cause_of_fetch, StopsInput, StopsCall, StopsWords};
 ghost use Rattle.officer.specs.Calls.{call_words, call_of, CallWords};
 ghost use Rattle.officer.specs.Reports.{GivesReport, IsStatus};
 ghost use Rattle.officer.specs.Outcomes.{report_text};
@@ -43,7 +43,7 @@ fn bytes_of<R: Read>(
     reader: &mut R,
     unreadable: Cause,
 ) -> Result<Vec<u8>, Cause>
-    ensures { IsOfInputs unreadable → IfErr result IsOfInputs }
+    ensures { IfErr result (StopsInput unreadable) }
 {
     match fetch(rt.alloc(), reader) {
         Ok(bytes) => Ok(bytes),
@@ -56,7 +56,7 @@ fn bytes_of_file<R: Files + AllocGlobal>(
     path: &str,
     unreadable: Cause,
 ) -> Result<Vec<u8>, Cause>
-    ensures { IsOfInputs unreadable → IfErr result IsOfInputs }
+    ensures { IfErr result (StopsInput unreadable) }
 {
     match File::open(rt, path) {
         Ok(mut file) => bytes_of(rt, &mut file, unreadable),
@@ -67,7 +67,7 @@ fn bytes_of_file<R: Files + AllocGlobal>(
 // The report that a call asks for.
 fn answer<R: Input + Files + AllocGlobal>(rt: &R, call: &Call) -> Result<Report, Cause>
     ensures given { IfOk result (λ report. GivesReport (call_words call.now) (report_text report)) }
-    ensures cause { IfErr result IsOfInputs }
+    ensures cause { IfErr result (StopsCall (call_words call.now)) }
 {
     let (command, first, second) = match *call {
         Call::Input => (
@@ -112,7 +112,7 @@ fn slices<'a>(alloc: Global, words: &'a [String]) -> Result<Vec<&'a str>, AllocE
 // The report that words ask for.
 fn answer_words<R: Input + Files + AllocGlobal>(rt: &R, words: &[String]) -> Result<Report, Cause>
     ensures given { IfOk result (λ report. (call : CallWords) × (call_of (map string_bytes words.now) ≡ Some call) × GivesReport call (report_text report)) }
-    ensures cause { IfErr result (λ cause. IsOfInputs cause ⊎ ((cause ≡ Cause.Words) × (call_of (map string_bytes words.now) ≡ None))) }
+    ensures cause { IfErr result (StopsWords (call_of (map string_bytes words.now))) }
 {
     let Ok(words) = slices(rt.alloc(), words) else {
         return Err(Cause::Memory);
