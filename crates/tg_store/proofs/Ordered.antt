@@ -42,6 +42,11 @@ legal-push g [] r h a = (a, tt)
 legal-push g (x ∷ rest) r h a = (h.0, legal-push (after_steps g x.steps) rest r h.1 a)
 
 -- the record at a place of a legal history is true there
+-- what follows is legal where the first records lead
+pub legal-rest : (g : ProtectionGraph) (history rest : List Record) → IsLegal g (history ++ rest) → IsLegal (replay g history) rest
+legal-rest g [] rest h = h
+legal-rest g (x ∷ history) rest h = legal-rest (after_steps g x.steps) history rest h.1
+
 pub legal-at : (g : ProtectionGraph) (history : List Record) (i : ℕ) (r : Record) → IsLegal g history → slice_get history i ≡ Some r → AreAnswers (replay g (take i history)) r.steps
 legal-at g [] i r h e = absurd (omega (arith, slice_get_within [] i r e))
 legal-at g (x ∷ rest) zero r h e = subst (λ b. AreAnswers g b.steps) (get_or_from_slice_get (x ∷ rest) zero r r e) h.0

@@ -6,7 +6,7 @@ ghost use Rattle.tg_graph.specs.GraphOf.{graph_of};
 ghost use Rattle.tg_store.specs.Answers.{AreAnswers, most_vertices};
 ghost use Rattle.tg_store.specs.Histories.{replay, IsLegal, IsNumbered, AreApart};
 ghost use Rattle.tg_store.specs.Worlds.{fresh_seat, seat_of, seat_in, rests_on, Moves, Happens, Run, IsStageable, OpensHall};
-ghost use Rattle.tg_store.specs.Acts.{is_learned, is_free, MayLearn, Repeats, CatchesUp, Acts, IsStageableAct};
+ghost use Rattle.tg_store.specs.Acts.{is_learned, is_free, MayLearn, OnlyLearns, Repeats, CatchesUp, Acts, IsStageableAct};
 ghost use Rattle.std.specs.Vec.{vec_capacity};
 ghost use Rattle.tg_store.specs.Seats.{seen_seat, IsConsistent, Rests};
 
@@ -298,6 +298,23 @@ impl Hall {
         }
     }
 
+    // A seat takes in the records that are left, up to the first that ends its session.
+    fn keep_up(&mut self, seat: u32)
+        ensures { OnlyLearns self.old (Event.Put seat) self.new }
+    {
+        if let Some(i) = index_of(seat, self.seats.len()) {
+            self.seats[i].keep_up(self.records.as_slice());
+        }
+    }
+
+    // A seat takes in the records that are left, and puts its session after them, unless one ends it.
+    fn commit(&mut self, seat: u32) -> HallReply
+        ensures { Repeats self.old (Event.Put seat) result self.new }
+    {
+        self.keep_up(seat);
+        self.repeat(&Event::Put(seat))
+    }
+
     /// One act of a seat: to take in all that is left and open a session, to stage a step, to commit, or to give up.
     ///
     /// Want of memory ends an act where it stands.
@@ -314,7 +331,7 @@ impl Hall {
                 }
             }
             Act::Stage(step) => self.happen(&Event::Stage(seat, step)),
-            Act::Commit => self.repeat(&Event::Put(seat)),
+            Act::Commit => self.commit(seat),
             Act::Abort => self.happen(&Event::Abort(seat)),
         }
     }

@@ -1,12 +1,13 @@
 //! The seats of a hall.
-ghost use Rattle.std.specs.Prelude.{◌≡◌, ◌<◌, ◌≤◌, ◌∷◌, ◌++◌, [], List, All, IsSome, IfOk, OnOk, OnErr, IfSome, Some, None, length, slice_get, vec_len, not, is_none};
+ghost use Rattle.std.specs.Prelude.{◌≡◌, ◌<◌, ◌≤◌, ◌∷◌, ◌++◌, [], List, All, IsSome, IfOk, OnOk, OnErr, IfSome, Some, None, length, slice_get, vec_len, not, is_none, false, drop};
 ghost use Rattle.std.specs.Vec.{vec_capacity};
 ghost use Rattle.tg_graph.specs.Graphs.{ProtectionGraph};
 ghost use Rattle.tg_graph.specs.GraphOf.{graph_of};
 ghost use Rattle.tg_store.specs.declared.records.Record.{Record};
 ghost use Rattle.tg_store.specs.StepWords.{IsNamedStep};
 ghost use Rattle.tg_store.specs.Answers.{IsAnswer, AreAnswers, after_steps};
-ghost use Rattle.tg_store.specs.Histories.{count_of};
+ghost use Rattle.tg_store.specs.Histories.{count_of, IsLegal};
+ghost use Rattle.tg_store.specs.Seats.{IsClearPart};
 ghost use Rattle.tg_store.specs.Touches.{IsClear};
 ghost use Rattle.tg_store.specs.Worlds.{one_further, fresh_seat, Begins, TakesIn, Learns, Stages, Aborts, Joins, Puts};
 
@@ -45,6 +46,38 @@ fn keep(kept: &mut Vec<Answered>, step: Step, reply: Reply)
     kept.push_reserved(Answered::new(step, reply));
 }
 
+// Whether a record ends a session with these steps.
+fn ends_session(graph: &Graph, committed: &[Answered], steps: &[Answered]) -> bool
+    requires committed { AreAnswers (graph_of graph.now) committed.now }
+    requires session { AreAnswers (graph_of graph.now) steps.now }
+    ensures { result ≡ false → IsClear (graph_of graph.now) committed.now (Some steps.now) }
+{
+    spoilers::spoiler(graph, committed, steps).is_some()
+        || spoilers::crowds(graph, committed, steps)
+}
+
+// How many of the records, from the first on, leave a session with these steps as it is, and the graph after them.
+fn clear_part(
+    base: &Graph,
+    steps: &[Answered],
+    records: &[Record],
+) -> Result<(Graph, usize), AllocError>
+    requires answers { AreAnswers (graph_of base.now) steps.now }
+    requires legal { IsLegal (graph_of base.now) records.now }
+    ensures { IfOk result (λ part. IsClearPart (graph_of base.now) steps.now records.now part.1 (graph_of part.0)) }
+{
+    let mut graph = base.copy()?;
+    for count in 0..records.len() {
+        let committed = records[count].steps.as_slice();
+        let _ = graph.len();
+        if ends_session(&graph, committed, steps) {
+            return Ok((graph, count));
+        }
+        replays::lay_all(&mut graph, committed)?;
+    }
+    Ok((graph, records.len()))
+}
+
 impl OpenSession {
     ghost use Rattle.tg_store.specs.Seats.{IsSessionOn};
 
@@ -68,7 +101,7 @@ impl OpenSession {
 }
 
 impl SeatState {
-    ghost use Rattle.tg_store.specs.Seats.{seen_seat, IsConsistent, Rests, Obstructs, TakesAll};
+    ghost use Rattle.tg_store.specs.Seats.{seen_seat, IsConsistent, Rests, Obstructs, TakesAll, GoesFurther, KeepsUp};
 
     /// A seat that has taken in nothing.
     pub fn new(alloc: Global, opening: &Graph) -> Result<SeatState, AllocError>
@@ -270,6 +303,45 @@ impl SeatState {
                 HallReply::Nothing
             }
             Err(_) => HallReply::Refused(HallFault::Memory),
+        }
+    }
+
+    // What the records that are left, up to the first that ends the open session, make of the graph and of the
+    // session's own, and how many they are. There is none without a session or without memory.
+    fn further(&self, records: &[Record]) -> Option<(Graph, Overlay, usize)>
+        requires consistent { IsConsistent self.now }
+        requires legal { IsLegal (graph_of self.now.graph) (drop self.now.taken records.now) }
+        requires within { self.now.taken ≤ length records.now }
+        ensures { IfSome result (λ f. GoesFurther self.now records.now f.0 f.1 f.2) }
+    {
+        let session = self.session.as_ref()?;
+        let steps = session.kept.as_slice();
+        let Ok((graph, count)) = clear_part(&self.graph, steps, &records[self.taken..]) else {
+            return None;
+        };
+        let Ok(overlay) = Overlay::with_steps(&graph, steps) else {
+            return None;
+        };
+        Some((graph, overlay, count))
+    }
+
+    /// Takes in the records that are left, up to the first that ends the open session. Where no session is open, or
+    /// memory is refused, nothing has changed.
+    pub fn keep_up(&mut self, records: &[Record])
+        requires consistent { IsConsistent self.old }
+        requires legal { IsLegal (graph_of self.old.graph) (drop self.old.taken records.now) }
+        requires within { self.old.taken ≤ length records.now }
+        ensures keeps { KeepsUp (graph_of self.old.graph) records.now (seen_seat self.old) (seen_seat self.new) }
+        ensures rests { (g : ProtectionGraph) → Rests g records.now self.old → Rests g records.now self.new }
+        ensures consistent { IsConsistent self.new }
+    {
+        let Some((graph, overlay, count)) = self.further(records) else {
+            return;
+        };
+        if let Some(session) = &mut self.session {
+            session.overlay = overlay;
+            self.graph = graph;
+            self.taken += count;
         }
     }
 
