@@ -1,12 +1,11 @@
 -- The report of a derivation is read as its rules, and they are carried out whole.
-use Rattle.std.proofs.Common.{◌≡◌, ℕ, ◌+◌, ◌<◌, ◌≤◌, ◌^◌, List, [], ◌∷◌, ◌++◌, length, None, Ok, codes, refl, sym, ap, subst, ◌∙◌, arith}
+use Rattle.std.proofs.Common.{◌≡◌, ℕ, ◌+◌, ◌≤◌, List, [], ◌∷◌, length, Ok, codes, refl, sym, ap, subst, ◌∙◌, arith}
 use Rattle.std.specs.Prelude.{decimal, IsTrue}
 use Rattle.std.specs.List.{AllByRecursion}
-use Rattle.std.proofs.lemmas.List.{length-append}
 use Rattle.std.proofs.lemmas.Fmt.{decimal_nonempty}
 use Rattle.tg_graph.specs.declared.rules.Rule.{Rule}
 use Rattle.tg_graph.specs.Graphs.{ProtectionGraph}
-use Rattle.tg_graph.specs.Rules.{refusal_of, after}
+use Rattle.tg_graph.specs.Rules.{after}
 use Rattle.tg_graph.specs.RuleWords.{IsRule}
 use Rattle.tg_graph.specs.RuleLists.{AllAccepted, after_all}
 use Rattle.tg_graph.proofs.Digits.{name-decimal}
@@ -17,8 +16,8 @@ use Rattle.tg_text.specs.RoundTrips.{lines_of_rules, on_lines}
 use Rattle.tg_text.proofs.PlainWords.{IsPlainWord, word_from_test, name_word}
 use Rattle.tg_text.proofs.RuleBack.{length-more}
 use Rattle.tg_text.proofs.RulesBack.{rules-read, skipped-line}
-use Rattle.officer.specs.Reports.{Played, onto_played, played_first, played, reply_line, derivation_report}
-use Rattle.officer.specs.ReportLaws.{rules_of, GivesTheRight, DerivationsGiveTheRight}
+use Rattle.officer.specs.Reports.{Played, played_first, played, derivation_report}
+use Rattle.officer.specs.ReportLaws.{rules_of, DerivationsGiveTheRight}
 
 are_rules : (g : ProtectionGraph) (rules : List Rule) → AllAccepted g rules → AllByRecursion IsRule rules
 are_rules g [] a = tt

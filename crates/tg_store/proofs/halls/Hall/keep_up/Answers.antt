@@ -1,4 +1,4 @@
-use Rattle.std.proofs.Common.{◌≡◌, ◌<◌, sym, refl, ap, subst, ◌∙◌, drop, length, map, set}
+use Rattle.std.proofs.Common.{◌<◌, sym, refl, subst, ◌∙◌, drop, length, map, set}
 use Rattle.tg_graph.specs.GraphOf.{graph_of}
 use Rattle.tg_store.specs.declared.events.Event.TheVariants.{Put}
 use Rattle.tg_store.specs.Histories.{IsLegal}
