@@ -1,7 +1,7 @@
 # make demo       proves and builds the program, and shows it on the file service of examples/
 # make examples   compares what each example prints with what is stored beside it
 # make test       the merge gate: every proof from nothing, the wrong bodies, the tests, the program;
-#                 some 25 minutes on four cores
+#                 some 20 minutes on four cores
 # make man        the manual page
 # make bench      time and peak memory of each command on heavy inputs
 
@@ -12,7 +12,7 @@ GRAPH = $(FILES).graph
 .PHONY: build demo examples test man bench
 
 build:
-	@echo "Proving and building officer and the crates below it: about ten minutes on four cores from nothing, seconds after that."
+	@echo "Proving and building officer and the crates below it: some six minutes on four cores from nothing, seconds after that."
 	@log=$$(mktemp); (cd crates/officer && rt run < stdin) > $$log 2>&1 || { tail -n 20 $$log; rm -f $$log; exit 1; }; rm -f $$log
 
 show = echo "== officer $(1)"; $(OFFICER) $(1)

@@ -1,5 +1,5 @@
 //! Reports on protection graphs.
-ghost use Rattle.std.specs.Prelude.{◌≡◌, IfOk};
+ghost use Rattle.std.specs.Prelude.{IfOk};
 ghost use Rattle.officer.specs.Calls.{command_words};
 ghost use Rattle.officer.specs.Readings.{graph_in};
 ghost use Rattle.officer.specs.Reports.{check_report, apply_report, IsReport, IsFor, AreIslandLines, graph_part, rules_part};

@@ -1,5 +1,5 @@
 //! Questions about sharing.
-ghost use Rattle.std.specs.Prelude.{◌≡◌, ◌++◌, IfOk, OnOk, codes};
+ghost use Rattle.std.specs.Prelude.{◌≡◌, ◌++◌, IfOk, OnOk};
 ghost use Rattle.tg_text.specs.RoundTrips.{lines_of_rules};
 ghost use Rattle.officer.specs.Readings.{question_in};
 ghost use Rattle.officer.specs.Reports.{IsFor, IsAnswer, IsDerived, derivation_report};

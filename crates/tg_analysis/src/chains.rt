@@ -1,9 +1,9 @@
 //! Chains of links from a vertex that holds a right.
-ghost use Rattle.std.specs.Prelude.{◌≡◌, ◌<◌, ◌+◌, ◌∷◌, [], Some, IsTrue, IfOk, OnOk, MatchOption, slice_get, length};
+ghost use Rattle.std.specs.Prelude.{◌≡◌, ◌<◌, ◌+◌, [], Some, IsTrue, IfOk, OnOk, MatchOption, slice_get};
 ghost use Rattle.std.specs.Map.{keys_of};
 ghost use Rattle.tg_graph.specs.Graphs.{has_vertex, WellFormed};
 ghost use Rattle.tg_graph.specs.GraphOf.{graph_of};
-ghost use Rattle.tg_analysis.specs.Sharing.{IsChain, NoRepeat, HeldInIsland};
+ghost use Rattle.tg_analysis.specs.Sharing.{HeldInIsland};
 ghost use Rattle.tg_analysis.specs.Linked.{AreLinks};
 ghost use Rattle.tg_analysis.specs.Searches.{AreNear, AddsUnmet, AreUnmet, IsBackwards, IsWayBack, IsSearch, GoesRound, IsWay};
 

@@ -1,9 +1,9 @@
 //! The flood that finds the islands of a graph.
-ghost use Rattle.std.specs.Prelude.{◌≡◌, ◌<◌, ◌≤◌, ◌+◌, [], ◌∷◌, IfOk, OnOk, true, length, replicate, is_some, None, ℕ};
+ghost use Rattle.std.specs.Prelude.{◌≡◌, ◌<◌, ◌+◌, [], ◌∷◌, IfOk, OnOk, true, length, replicate, is_some, None, ℕ};
 ghost use Rattle.tg_graph.specs.GraphOf.{graph_of};
 ghost use Rattle.tg_analysis.specs.Linked.{neighbours, is_near};
 ghost use Rattle.tg_analysis.specs.Numbering.{AreIslands};
-ghost use Rattle.tg_analysis.specs.Flooding.{number_in, Meets, FloodsSoFar, Floods, NumbersUpTo, GoBothWays, AreTheNumbers};
+ghost use Rattle.tg_analysis.specs.Flooding.{number_in, Meets, Floods, NumbersUpTo, GoBothWays, AreTheNumbers};
 
 use crate::links::Links;
 use crate::numbering::Islands;

@@ -1,8 +1,8 @@
 //! Names of vertices.
-ghost use Rattle.std.specs.Prelude.{◌≡◌, ◌≤◌, ◌<◌, ◌+◌, Some, None, [], ◌∷◌, refl, length, bytes_eq, nat_eq, drop, decimal};
+ghost use Rattle.std.specs.Prelude.{◌≡◌, ◌≤◌, ◌<◌, ◌+◌, Some, None, [], ◌∷◌, refl, length, bytes_eq, drop, decimal};
 ghost use Rattle.std.specs.Ordering.{nat_cmp};
 ghost use Rattle.std.specs.Cmp.{partial_equiv_from_equiv};
-ghost use Rattle.std.specs.Cmp.Lexicographic.{slice_cmp, pointwise, nat_list_eq_equiv, nat_list_cmp_total, texts_ties, texts_po};
+ghost use Rattle.std.specs.Cmp.Lexicographic.{slice_cmp, nat_list_eq_equiv, nat_list_cmp_total, texts_ties, texts_po};
 ghost use Rattle.tg_graph.specs.NameFields.{equal_hash_alike};
 ghost use Rattle.tg_graph.specs.Names.{IsName, name_of, fits_at, first_bad, helper_name, padded_to_16};
 

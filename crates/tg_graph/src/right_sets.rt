@@ -1,7 +1,7 @@
 //! The rights of one vertex over another.
 ghost use Rattle.std.specs.Prelude.{⊤, ◌≡◌, ◌==◌, ◌^◌, ◌<◌, [], ◌∷◌, codes, Some, None};
-ghost use Rattle.tg_graph.specs.Sets.{member, bit_of, IsNamed, right_of_letter, weight};
-ghost use Rattle.tg_graph.specs.Letters.{letters_of, letters_among, letter_of, set_of_letters, with_right, with_new_right};
+ghost use Rattle.tg_graph.specs.Sets.{member, bit_of, IsNamed, right_of_letter};
+ghost use Rattle.tg_graph.specs.Letters.{letters_of, letters_among, letter_of, set_of_letters};
 ghost use Rattle.std.specs.Prelude.{◌+◌, ◌||◌, ◌&&◌, ◌↔◌, not, true, IsTrue, bit_or, slice_get, length, IfSome};
 ghost use Rattle.tg_graph.specs.declared.right_sets.Right.{Right};
 ghost use Rattle.tg_graph.specs.Sets.{rights_where};

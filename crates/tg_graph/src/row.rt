@@ -1,7 +1,7 @@
 //! The edges out of one vertex.
-ghost use Rattle.std.specs.Prelude.{◌≡◌, true, false, Some, None, ◌<◌, ◌≤◌, ◌||◌, ◌&&◌, not, [], IfOk, IfErr, OnOk, OnErr, MatchBool, bytes_eq, nat_eq, length, slice_get};
+ghost use Rattle.std.specs.Prelude.{◌≡◌, true, false, Some, None, ◌<◌, not, [], IfOk, IfErr, OnOk, OnErr, MatchBool, bytes_eq, length, slice_get};
 ghost use Rattle.std.specs.Map.{lookup};
-ghost use Rattle.tg_graph.specs.Sets.{member, IsNamed};
+ghost use Rattle.tg_graph.specs.Sets.{IsNamed};
 ghost use Rattle.tg_graph.specs.Rows.{label_in, IsLabel, IsRow, Puts, is_target, Adds, TakesAway, IsPlaceOf, IsGapFor};
 
 use crate::names::Name;

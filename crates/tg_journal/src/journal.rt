@@ -1,4 +1,4 @@
-ghost use Rattle.std.specs.Prelude.{All, IfSome, IsTrue, IsFalse, IsSome, IsNone, ◌≡◌, ◌≢◌, ◌≤◌, ◌<◌, ℕ, ◌+◌, length, max, take, map, slice_get, IfOk, IfErr, ◌↔◌, MatchResult, ◌++◌, ◌∷◌, []};
+ghost use Rattle.std.specs.Prelude.{All, IfSome, IsTrue, IsFalse, IsSome, ◌≡◌, ◌≤◌, ◌<◌, ℕ, ◌+◌, length, max, take, map, slice_get, IfOk, IfErr, ◌↔◌};
 ghost use Rattle.std.specs.Option.{option_copied};
 ghost use Rattle.tg_journal.specs.Lists.{Begins, Agree};
 ghost use Rattle.tg_journal.specs.Pass.{fresh, IsPass, Remembers, KnowsOthersAsBefore};

@@ -1,10 +1,10 @@
 //! The names that a session touches, and the records that stand in its way.
-ghost use Rattle.std.specs.Prelude.{◌≡◌, ◌↔◌, ◌∷◌, [], IsTrue, None, count_by, find, length};
-ghost use Rattle.std.specs.List.{list_any, IsDistinct};
+ghost use Rattle.std.specs.Prelude.{◌≡◌, ◌↔◌, ◌∷◌, [], IsTrue, None, count_by, find};
+ghost use Rattle.std.specs.List.{list_any};
 ghost use Rattle.tg_graph.specs.GraphOf.{graph_of};
 ghost use Rattle.tg_store.specs.Answers.{AreAnswers};
 ghost use Rattle.tg_store.specs.Touches.{step_touches, reply_touches, touches, spoiler, IsCrowded};
-ghost use Rattle.tg_store.specs.Told.{is_done, is_creation, is_rule, told_writes, all_told_writes, tells_creation, tells_change};
+ghost use Rattle.tg_store.specs.Told.{is_done, told_writes, all_told_writes, tells_creation, tells_change};
 
 use crate::answers::Answered;
 use crate::replays::MOST_VERTICES;

@@ -1,4 +1,3 @@
-ghost use Rattle.std.specs.Prelude.{All};
 ghost use Rattle.tg_graph.specs.Sets.{IsNamed};
 ghost use Rattle.tg_store.specs.Acts.{IsStageableAct};
 ghost use Rattle.tg_store.specs.Worlds.{IsStageable};

@@ -1,9 +1,9 @@
 //! The text of a graph.
-ghost use Rattle.std.specs.Prelude.{◌≡◌, ◌<◌, true, false};
+ghost use Rattle.std.specs.Prelude.{◌≡◌, ◌<◌, false};
 ghost use Rattle.tg_graph.specs.Sets.{IsNamed, is_empty_set};
 ghost use Rattle.tg_graph.specs.GraphOf.{graph_of};
 ghost use Rattle.tg_text.specs.Lines.{words_of};
-ghost use Rattle.tg_text.specs.Reading.{Makes, Reads, after_line};
+ghost use Rattle.tg_text.specs.Reading.{Makes, Reads};
 ghost use Rattle.tg_text.specs.GraphText.{vertex_item, edge_item, graph_item, graph_line, graph_text, with_new_vertex, with_new_edge};
 
 use crate::faults::{LineFault, TextFault, TextKind};

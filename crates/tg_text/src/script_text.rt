@@ -1,7 +1,6 @@
 //! The text of a script.
 ghost use Rattle.std.specs.Prelude.{◌≡◌, Ok, IfOk, OnOk};
 ghost use Rattle.tg_text.specs.Lines.{words_of};
-ghost use Rattle.tg_text.specs.Words.{Word};
 ghost use Rattle.tg_text.specs.Reading.{Makes, Reads, after_line, with_item};
 ghost use Rattle.tg_text.specs.ScriptText.{right_and_names, act_alone, act_of_words, seated, event_of_words, event_item, header_number, script_item, script_text, script_of, IsNamedAct, AreNamedEvents, IsWithinLimits};
 

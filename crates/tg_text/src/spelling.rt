@@ -1,5 +1,5 @@
 //! Rules, replies and numbers as text.
-ghost use Rattle.std.specs.Prelude.{◌≡◌, ◌+◌, ◌≤◌, ◌<◌, ◌++◌, ◌∷◌, [], IfOk, OnOk, OnErr, length, vec_len, vec_capacity};
+ghost use Rattle.std.specs.Prelude.{◌≡◌, ◌+◌, ◌≤◌, ◌<◌, ◌++◌, ◌∷◌, IfOk, OnOk, OnErr, length, vec_len, vec_capacity};
 ghost use Rattle.std.specs.Fmt.{decimal};
 ghost use Rattle.tg_text.specs.Spelling.{rule_text, reply_text, refusal_words, rights_text, spaced};
 ghost use Rattle.tg_graph.specs.Letters.{letters_among};

@@ -1,5 +1,5 @@
 //! The words of a line.
-ghost use Rattle.std.specs.Prelude.{◌≡◌, ◌<◌, ◌≤◌, ◌∷◌, [], ◌+◌, ◌*◌, nat_lt, true, false, take, drop, length, IfOk, IfErr, MatchOption, MatchResult, Ok, Err};
+ghost use Rattle.std.specs.Prelude.{◌≡◌, ◌<◌, ◌≤◌, ◌∷◌, [], ◌+◌, ◌*◌, length, IfOk, MatchResult, Ok, Err};
 ghost use Rattle.tg_graph.specs.Sets.{IsNamed};
 ghost use Rattle.tg_text.specs.Lines.{words_of};
 ghost use Rattle.tg_text.specs.Words.{no_words, one_word, three_words, four_words, name_at, rights_at, right_at, number_up_to, number_of, with_digits, is_digit};
