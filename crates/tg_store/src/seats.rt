@@ -307,13 +307,16 @@ impl SeatState {
     }
 
     // What the records that are left, up to the first that ends the open session, make of the graph and of the
-    // session's own, and how many they are. There is none without a session or without memory.
+    // session's own, and how many they are. There is none without a session, a record that is left, or memory.
     fn further(&self, records: &[Record]) -> Option<(Graph, Overlay, usize)>
         requires consistent { IsConsistent self.now }
         requires legal { IsLegal (graph_of self.now.graph) (drop self.now.taken records.now) }
         requires within { self.now.taken ≤ length records.now }
         ensures { IfSome result (λ f. GoesFurther self.now records.now f.0 f.1 f.2) }
     {
+        if self.taken == records.len() {
+            return None;
+        }
         let session = self.session.as_ref()?;
         let steps = session.kept.as_slice();
         let Ok((graph, count)) = clear_part(&self.graph, steps, &records[self.taken..]) else {
