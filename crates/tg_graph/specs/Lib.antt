@@ -11,3 +11,4 @@ pub mod Additions
 pub mod Letters
 pub mod RowsOf
 pub mod Laws
+pub mod Limits

@@ -2,6 +2,7 @@
 #![tactic(auto)]
 
 pub mod laws;
+mod limits;
 #[cfg(test)]
 mod memory_tests;
 pub mod names;
@@ -13,6 +14,7 @@ pub mod session;
 #[cfg(test)]
 mod tests;
 
+pub use limits::{MOST_CELLS, MOST_SEATS, MOST_VERTICES};
 pub use names::{Name, NameFault};
 pub use protection::{EdgeFault, Graph, VertexFault};
 pub use right_sets::{Right, Rights};

@@ -1,0 +1,14 @@
+-- The limits that texts, sessions and derivations keep.
+use Rattle.std.specs.Prelude.{ℕ}
+
+-- how many vertices there may be in the graph of a text, a session or a derivation
+abbrev pub most_vertices : ℕ
+most_vertices = 1024
+
+-- how many cells a journal may have
+abbrev pub most_cells : ℕ
+most_cells = 4096
+
+-- how many seats there may be
+abbrev pub most_seats : ℕ
+most_seats = 64

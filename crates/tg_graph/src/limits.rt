@@ -1,0 +1,12 @@
+//! The limits that texts, sessions and derivations keep. The graph type itself has none.
+//!
+//! The definitions have the same numbers in `specs/Limits.antt`; what the code compares with is here alone.
+
+/// How many vertices there may be in the graph of a text, a session or a derivation.
+pub const MOST_VERTICES: usize = 1024;
+
+/// How many cells a journal may have. It has at least one.
+pub const MOST_CELLS: usize = 4096;
+
+/// How many seats there may be. There is at least one.
+pub const MOST_SEATS: u32 = 64;
