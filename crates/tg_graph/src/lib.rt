@@ -13,6 +13,7 @@ pub mod names;
 pub mod protection;
 pub mod right_sets;
 mod row;
+mod row_maps;
 pub mod rules;
 pub mod session;
 mod shared_row;
