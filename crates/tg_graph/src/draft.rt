@@ -165,6 +165,7 @@ impl Draft {
         ensures fits { Fits base.now self.new }
         ensures err { OnErr result (self.new ≡ self.old) }
     {
+        // The base is a graph.
         let _ = base.len();
         widen(&mut self.rows, base, x, y, rights)?;
         Ok(())
@@ -181,6 +182,7 @@ impl Draft {
         ensures fits { Fits base.now self.new }
         ensures err { OnErr result (self.new ≡ self.old) }
     {
+        // The base is a graph.
         let _ = base.len();
         narrow(&mut self.rows, base, x, y, rights)?;
         Ok(())
@@ -198,6 +200,7 @@ impl Draft {
         ensures fits { Fits base.now self.new }
         ensures err { OnErr result (self.new ≡ self.old) }
     {
+        // The base is a graph, and the bytes of a `Name` are a name.
         let _ = base.len();
         let _ = n.as_bytes();
         let row = SharedRow::new(self.alloc)?;

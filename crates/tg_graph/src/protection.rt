@@ -243,6 +243,7 @@ impl Graph {
         if self.knows(n) {
             return Err(VertexFault::Taken);
         }
+        // The bytes of a `Name` are a name, as those of each vertex must be.
         let _ = n.as_bytes();
         let row = SharedRow::new(self.alloc)?;
         self.rows.reserve(1)?;
@@ -259,6 +260,7 @@ impl Graph {
             (graph_of self.new ≡ with_rights (with_vertex (graph_of self.old) n) x n rights) }
         ensures err { OnErr result (self.new ≡ self.old) }
     {
+        // The bytes of a `Name` are a name, as those of each vertex must be.
         let _ = n.as_bytes();
         let row = SharedRow::new(self.alloc)?;
         self.rows.reserve(1)?;

@@ -17,6 +17,7 @@ pub fn put(rows: &mut IndexMap<Name, SharedRow>, n: Name, row: SharedRow)
     match rows.get_mut(&n) {
         Some(place) => *place = row,
         None => {
+            // There is room, so it is not refused.
             let _ = rows.insert(n, row);
         }
     }
