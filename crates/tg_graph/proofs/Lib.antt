@@ -10,3 +10,5 @@ pub mod Digits
 pub mod NameLaws
 pub mod RunLaws
 pub mod RowsOf
+pub mod RefusalOrder
+pub mod RightsWords
