@@ -12,6 +12,8 @@ mod row;
 pub mod rules;
 pub mod session;
 #[cfg(test)]
+mod test_values;
+#[cfg(test)]
 mod tests;
 
 pub use limits::{MOST_CELLS, MOST_SEATS, MOST_VERTICES};
