@@ -267,6 +267,17 @@ fn grants(rt: HostRuntime) -> Result<(), Fail> {
 }
 
 #[test]
+fn labels_that_grow_and_shrink(rt: HostRuntime) -> Result<(), Fail> {
+    let mut g = two(&rt, rt.alloc(), b"tgr")?;
+    let b = name(&rt, b"b");
+    accepts(&rt, &mut g, grant(&rt, b"a", b"b", b"b", b"r"));
+    accepts(&rt, &mut g, grant(&rt, b"a", b"b", b"b", b"gt"));
+    accepts(&rt, &mut g, remove(&rt, b"b", b"b", b"t"));
+    assert!(rt; g.row_len(1) == 1 && g.row_at(1, 0) == Some((b, set(&rt, b"gr"))));
+    Ok(())
+}
+
+#[test]
 fn refused_creates(rt: HostRuntime) -> Result<(), Fail> {
     let mut g = two(&rt, rt.alloc(), b"-")?;
     let taken = Refusal::Taken(name(&rt, b"a"));
