@@ -8,7 +8,7 @@ pub mod Letters
 pub mod Same
 pub mod Digits
 pub mod NameLaws
-pub mod RunLaws
-pub mod RowsOf
 pub mod RefusalOrder
 pub mod RightsWords
+pub mod RunLaws
+pub mod RowsOf
