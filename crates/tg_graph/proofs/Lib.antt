@@ -8,6 +8,8 @@ pub mod Letters
 pub mod Same
 pub mod Digits
 pub mod NameLaws
+pub mod RefusalOrder
+pub mod RightsWords
 pub mod RunLaws
 pub mod RowsOf
 pub mod NewNames

@@ -5,9 +5,10 @@ ghost use Rattle.tg_graph.specs.Rules.{rights_of};
 ghost use Rattle.tg_graph.specs.Drafts.{Fits};
 
 use crate::draft::{Draft, Ready};
-use crate::memory_tests::{copied, one, rule_at, same};
+use crate::memory_tests::{copied, one, rule_at};
 use crate::protection::Graph;
 use crate::rules::{Rule, RuleFault};
+use crate::test_values::same;
 use std::alloc::AllocError;
 use std::process::Abort;
 use std::test::Fail;

@@ -3,66 +3,32 @@ ghost use Rattle.tg_graph.specs.Rules.{rights_of};
 ghost use Rattle.tg_graph.specs.Drafts.{Fits};
 
 use crate::draft::{Draft, Ready};
-use crate::names::Name;
 use crate::protection::Graph;
 use crate::right_sets::{Right, Rights};
 use crate::rules::{Refusal, Rule, RuleFault};
-use bitflags::Flags;
-use std::alloc::Global;
+use crate::test_values::{create, name, remove, take, three};
 use std::process::Abort;
 use std::test::Fail;
 
-fn name(bytes: &[u8]) -> Name {
-    match Name::parse(bytes) {
-        Ok(name) => name,
-        Err(_) => Name::helper(7),
-    }
-}
-
-// The graph of a, b and c in which a has t over b, and b has r over c.
-fn three(alloc: Global) -> Result<Graph, Fail> {
-    let mut g = Graph::new(alloc);
-    let (a, b, c) = (name(b"a"), name(b"b"), name(b"c"));
-    g.add_vertex(a)?;
-    g.add_vertex(b)?;
-    g.add_vertex(c)?;
-    g.add_edge(a, b, Rights::of(Right::T))?;
-    g.add_edge(b, c, Rights::of(Right::R))?;
-    Ok(g)
-}
-
 // a takes r over c from b.
-fn take_r() -> Rule
+fn take_r(rt: &impl Abort) -> Rule
     ensures { IsNamed (rights_of result) }
 {
-    Rule::Take {
-        x: name(b"a"),
-        y: name(b"b"),
-        z: name(b"c"),
-        rights: Rights::of(Right::R),
-    }
+    take(rt, b"a", b"b", b"c", b"r")
 }
 
 // a creates n with r.
-fn create_r() -> Rule
+fn create_r(rt: &impl Abort) -> Rule
     ensures { IsNamed (rights_of result) }
 {
-    Rule::Create {
-        x: name(b"a"),
-        n: name(b"n"),
-        rights: Rights::of(Right::R),
-    }
+    create(rt, b"a", b"n", b"r")
 }
 
 // b gives r over c up.
-fn remove_r() -> Rule
+fn remove_r(rt: &impl Abort) -> Rule
     ensures { IsNamed (rights_of result) }
 {
-    Rule::Remove {
-        x: name(b"b"),
-        y: name(b"c"),
-        rights: Rights::of(Right::R),
-    }
+    remove(rt, b"b", b"c", b"r")
 }
 
 fn drafts(rt: &impl Abort, draft: &mut Draft, base: &Graph, rule: Rule)
@@ -75,11 +41,11 @@ fn drafts(rt: &impl Abort, draft: &mut Draft, base: &Graph, rule: Rule)
 
 #[test]
 fn a_draft_over_a_graph(rt: HostRuntime) -> Result<(), Fail> {
-    let base = three(rt.alloc())?;
+    let base = three(&rt, rt.alloc())?;
     let mut draft = Draft::new(rt.alloc());
-    let (a, c) = (name(b"a"), name(b"c"));
+    let (a, c) = (name(&rt, b"a"), name(&rt, b"c"));
     assert!(rt; !draft.holds(&base, a, Right::R, c));
-    drafts(&rt, &mut draft, &base, take_r());
+    drafts(&rt, &mut draft, &base, take_r(&rt));
     assert!(rt; draft.holds(&base, a, Right::R, c) && !base.holds(a, Right::R, c));
     let whole = draft.whole(&base)?;
     assert!(rt; whole.label(a, c) == Some(Rights::of(Right::R)) && !base.holds(a, Right::R, c));
@@ -89,13 +55,13 @@ fn a_draft_over_a_graph(rt: HostRuntime) -> Result<(), Fail> {
 #[test]
 fn a_draft_creates(rt: HostRuntime) -> Result<(), Fail> {
     let mut base = Graph::new(rt.alloc());
-    let (a, n) = (name(b"a"), name(b"n"));
+    let (a, n) = (name(&rt, b"a"), name(&rt, b"n"));
     base.add_vertex(a)?;
     let mut draft = Draft::new(rt.alloc());
-    drafts(&rt, &mut draft, &base, create_r());
+    drafts(&rt, &mut draft, &base, create_r(&rt));
     assert!(rt; draft.created() == 1 && draft.known(&base, n) && base.len() == 1);
     let fault = RuleFault::Refused(Refusal::Taken(n));
-    assert!(rt; draft.apply(&base, &create_r()) == Err(fault));
+    assert!(rt; draft.apply(&base, &create_r(&rt)) == Err(fault));
     let whole = draft.whole(&base)?;
     assert!(rt; whole.len() == 2 && whole.position(n) == Some(1));
     assert!(rt; whole.label(a, n) == Some(Rights::of(Right::R)));
@@ -104,26 +70,26 @@ fn a_draft_creates(rt: HostRuntime) -> Result<(), Fail> {
 
 #[test]
 fn a_draft_merged(rt: HostRuntime) -> Result<(), Fail> {
-    let mut base = three(rt.alloc())?;
+    let mut base = three(&rt, rt.alloc())?;
     let copy = base.copy()?;
     let mut draft = Draft::new(rt.alloc());
-    drafts(&rt, &mut draft, &base, take_r());
+    drafts(&rt, &mut draft, &base, take_r(&rt));
     assert!(rt; base.merge(draft).is_ok());
-    assert!(rt; base.holds(name(b"a"), Right::R, name(b"c")));
-    assert!(rt; !copy.holds(name(b"a"), Right::R, name(b"c")));
+    assert!(rt; base.holds(name(&rt, b"a"), Right::R, name(&rt, b"c")));
+    assert!(rt; !copy.holds(name(&rt, b"a"), Right::R, name(&rt, b"c")));
     Ok(())
 }
 
 #[test]
 fn a_draft_made_ready(rt: HostRuntime) -> Result<(), Fail> {
-    let base = three(rt.alloc())?;
+    let base = three(&rt, rt.alloc())?;
     let mut draft = Draft::new(rt.alloc());
-    drafts(&rt, &mut draft, &base, remove_r());
-    drafts(&rt, &mut draft, &base, create_r());
+    drafts(&rt, &mut draft, &base, remove_r(&rt));
+    drafts(&rt, &mut draft, &base, create_r(&rt));
     match Ready::new(base, draft) {
         Ok(ready) => {
             let merged = ready.merge();
-            assert!(rt; merged.row_len(1) == 0 && merged.position(name(b"n")) == Some(3));
+            assert!(rt; merged.row_len(1) == 0 && merged.position(name(&rt, b"n")) == Some(3));
         }
         Err(_) => assert!(rt; false),
     }
@@ -138,12 +104,12 @@ fn applies(rt: &impl Abort, g: &mut Graph, rule: Rule)
 
 #[test]
 fn a_change_stays_in_its_copy(rt: HostRuntime) -> Result<(), Fail> {
-    let base = three(rt.alloc())?;
+    let base = three(&rt, rt.alloc())?;
     let mut shared = base.copy()?;
     let mut unshared = base.copy_unshared()?;
-    let (a, b, c) = (name(b"a"), name(b"b"), name(b"c"));
-    applies(&rt, &mut shared, take_r());
-    applies(&rt, &mut unshared, remove_r());
+    let (a, b, c) = (name(&rt, b"a"), name(&rt, b"b"), name(&rt, b"c"));
+    applies(&rt, &mut shared, take_r(&rt));
+    applies(&rt, &mut unshared, remove_r(&rt));
     assert!(rt; !base.holds(a, Right::R, c) && base.holds(b, Right::R, c));
     assert!(rt; shared.holds(a, Right::R, c) && shared.holds(b, Right::R, c));
     assert!(rt; !unshared.holds(a, Right::R, c) && !unshared.holds(b, Right::R, c));
@@ -152,11 +118,11 @@ fn a_change_stays_in_its_copy(rt: HostRuntime) -> Result<(), Fail> {
 
 #[test]
 fn a_change_leaves_the_copies(rt: HostRuntime) -> Result<(), Fail> {
-    let mut base = three(rt.alloc())?;
+    let mut base = three(&rt, rt.alloc())?;
     let shared = base.copy()?;
     let unshared = base.copy_unshared()?;
-    let (b, c) = (name(b"b"), name(b"c"));
-    applies(&rt, &mut base, remove_r());
+    let (b, c) = (name(&rt, b"b"), name(&rt, b"c"));
+    applies(&rt, &mut base, remove_r(&rt));
     assert!(rt; !base.holds(b, Right::R, c));
     assert!(rt; shared.holds(b, Right::R, c) && unshared.holds(b, Right::R, c));
     Ok(())

@@ -20,6 +20,8 @@ mod rules;
 mod session;
 mod shared_row;
 #[cfg(test)]
+mod test_values;
+#[cfg(test)]
 mod tests;
 
 pub use draft::{Draft, Ready, drafts_apart_commute, drafts_fit_by_names};
