@@ -3,7 +3,7 @@ pub mod Told
 pub mod Agreement
 pub mod Crowds
 pub mod SeatLemmas
+pub mod Numbers
 pub mod HallLemmas
 pub mod RunLemmas
-pub mod Numbers
 pub mod Learning
