@@ -10,3 +10,4 @@ pub mod Digits
 pub mod NameLaws
 pub mod RunLaws
 pub mod RowsOf
+pub mod Drafts
