@@ -1,5 +1,5 @@
 -- What rows that are put into a base do to the graph.
-use Rattle.std.proofs.Common.{◌≡◌, ℕ, ◌+◌, Bool, true, false, cond, List, [], ◌∷◌, ◌++◌, length, Option, Some, None, refl, sym, ap, subst, ◌∙◌, bytes_eq, IfSome, is_some, true≢false, arith, ◌||◌, suc, ◌≤◌, Result, Ok, Err, OnOk}
+use Rattle.std.proofs.Common.{◌≡◌, ℕ, ◌+◌, Bool, true, false, cond, List, [], ◌∷◌, ◌++◌, length, Option, Some, None, refl, sym, ap, subst, ◌∙◌, bytes_eq, IfSome, is_some, true≢false, arith, ◌||◌, ◌&&◌, not, Result, Ok, Err, OnOk}
 use Rattle.std.specs.Prelude.{if◌then◌else◌}
 use Rattle.std.specs.Option.{option_map_or}
 use Rattle.std.specs.List.{list_any, IsDistinct, AllByRecursion}
@@ -7,7 +7,7 @@ use Rattle.std.specs.Map.{keys_of, lookup, set_value}
 use Rattle.std.specs.Cmp.Lexicographic.{nat_list_eq_equiv}
 use Rattle.std.proofs.lemmas.Map.Made.{is_some-lookup}
 use Rattle.std.proofs.lemmas.Map.Keys.{IsDistinct-push}
-use Rattle.std.proofs.lemmas.List.{length-append, length-map}
+use Rattle.std.proofs.lemmas.List.{length-append, length-map, append-nil, append_assoc, append_cancel_left, map-append}
 use Rattle.indexmap.specs.IndexMap.{insert_entry, insert_all}
 use Rattle.indexmap.specs.IndexSet.{insert_key, insert_all as set_all}
 use Rattle.indexmap.proofs.MapLemmas.{insert_all_push}
@@ -17,7 +17,8 @@ use Rattle.tg_graph.specs.Rows.{Edges, Entries, Adds, TakesAway, IsGraph, IsRow,
 use Rattle.tg_graph.specs.Names.{IsName}
 use Rattle.tg_graph.specs.GraphOf.{graph_of}
 use Rattle.tg_graph.specs.Rules.{with_rights, without_rights, with_vertex}
-use Rattle.tg_graph.specs.Drafts.{Fits, AreRows, PutsRow}
+use Rattle.tg_graph.specs.Drafts.{Changes, is_created, laid_over, Fits, AreRows, IsDraft, PutsRow}
+use Rattle.tg_graph.proofs.NewNames.{is_among, new_names, filter-alike, among-filter, set-new, set-push}
 use Rattle.tg_graph.proofs.Rows.{symm, same_bytes, row_none}
 use Rattle.tg_graph.proofs.Graphs.{AltersRow, none_from_unknown, graph-adds, is_graph-adds, graph-takes, is_graph-takes, graph-creates, is_graph-creates}
 
@@ -102,7 +103,7 @@ are-put rows x row a r name = record {
 abbrev laid : Entries → Entries → Entries
 laid base rows = insert_all bytes_eq base rows
 
-abbrev first_of : Option Edges → Option Edges → Option Edges
+abbrev pub first_of : Option Edges → Option Edges → Option Edges
 first_of (Some row) other = Some row
 first_of None other = other
 
@@ -126,9 +127,8 @@ apart-laid : (base rows : Entries) → IsDistinct bytes_eq (keys_of base) → Is
 apart-laid base [] d = d
 apart-laid base (r ∷ rows) d = apart-laid (insert_entry bytes_eq base r.0 r.1) rows (apart-put base r.0 r.1 d)
 
-set-push : (ks xs : List (List ℕ)) (x : List ℕ) → set_all bytes_eq ks (xs ++ x ∷ []) ≡ insert_key bytes_eq (set_all bytes_eq ks xs) x
-set-push ks [] x = refl
-set-push ks (y ∷ xs) x = set-push (insert_key bytes_eq ks y) xs x
+pub keys-laid : (base rows : Entries) → IsDistinct bytes_eq (keys_of rows) → keys_of (laid base rows) ≡ keys_of base ++ new_names (keys_of base) (keys_of rows)
+keys-laid base rows d = keys_insert_all bytes_eq base rows ∙ set-new (keys_of base) (keys_of rows) d
 
 -- a name that is there already leaves the vertices
 keys-put : (base rows : Entries) (x : List ℕ) (row : Edges) → is_known (laid base rows) x ≡ true → keys_of (laid base (insert_entry bytes_eq rows x row)) ≡ keys_of (laid base rows)
@@ -228,24 +228,45 @@ module _ (base rows : Entries) (x : List ℕ) (d : IsDistinct bytes_eq (keys_of 
       row = r;
     }
 
-pub longer-put : (es : Entries) (k : List ℕ) (v : Edges) → length es ≤ length (insert_entry bytes_eq es k v)
-longer-put [] k v = omega arith
-longer-put (e ∷ es) k v = by (bytes_eq k e.0) (longer-put es k v)
-  where
-    by : (b : Bool) → length es ≤ length (insert_entry bytes_eq es k v) → suc (length es) ≤ length (if b then (e.0, v) ∷ es else e ∷ insert_entry bytes_eq es k v)
-    by true h = omega arith
-    by false h = omega (arith, h)
-
 pub on_ok_both : {T E P Q R : Type 0} (r : Result T E) → (P → Q → R) → OnOk r P → OnOk r Q → OnOk r R
 on_ok_both (Ok x) f p q = f p q
 on_ok_both (Err e) f p q = tt
 
 -- no rows fit each base
-pub fits-none : (base : Entries) → Fits base ([], 0)
-fits-none base = record { created = omega arith; targets = λ u v h. absurd (true≢false (sym h)) }
+pub fits-none : (base : Entries) → Fits base ([], [])
+fits-none base = record { vertices = sym (append-nil (keys_of base)); targets = λ u v h. absurd (true≢false (sym h)) }
+
+-- the created names are those of the rows that the base lacks
+pub created-new : (base : Entries) (d : Changes) → IsDistinct bytes_eq (keys_of d.0) → Fits base d → new_names (keys_of base) (keys_of d.0) ≡ d.1
+created-new base d apart f = append_cancel_left (keys_of base) _ _ (sym (keys-laid base d.0 apart) ∙ f.vertices)
+
+pub is_created-new : (base : Entries) (d : Changes) → IsDistinct bytes_eq (keys_of d.0) → Fits base d → (v : List ℕ) → is_created d v ≡ (not (is_known base v) && is_known d.0 v)
+is_created-new base d apart f v =
+    ap (λ names. is_among names v) (sym (created-new base d apart f)) ∙ among-filter (λ w. not (is_known base w)) (keys_of d.0) v
+
+pub and-left : (a b : Bool) → b ≡ true → (a && b) ≡ a
+and-left true b h = h
+and-left false b h = refl
+
+-- rows that fit some base are a draft
+pub draft-from_fits : (base : Entries) (d : Changes) → AreRows d.0 → Fits base d → IsDraft d
+draft-from_fits base d a f = record {
+  rows = a;
+  created =
+      filter-alike (is_created d) (λ v. not (is_known base v)) (keys_of d.0) (λ v m. is_created-new base d a.apart f v ∙ and-left (not (is_known base v)) (is_known d.0 v) m)
+      ∙ created-new base d a.apart f;
+}
+
+pub draft-none : IsDraft ([], [])
+unfolding IsDistinct
+draft-none = record { rows = record { apart = tt; rows = λ u. tt; names = λ v h. absurd (true≢false (sym h)) }; created = refl }
+
+-- how many vertices there are
+pub length-laid : (base : Entries) (d : Changes) → Fits base d → length (laid_over base d) ≡ length base + length d.1
+length-laid base d f = omega (arith, length-keys (laid_over base d), ap length f.vertices, length-append (keys_of base) d.1, length-keys base)
 
 -- ---- a draft's steps
-module _ (base : Entries) (g : IsGraph base) (old : Entries) (a : AreRows old) (n : ℕ) (f : Fits base (old, n)) where
+module _ (base : Entries) (g : IsGraph base) (old : Entries) (a : AreRows old) (names : List (List ℕ)) (f : Fits base (old, names)) where
   pub whole-graph : IsGraph (laid base old)
   whole-graph = graph-laid base old g a f.targets
 
@@ -255,9 +276,6 @@ module _ (base : Entries) (g : IsGraph base) (old : Entries) (a : AreRows old) (
 
     pub rows-put : AreRows new
     rows-put = subst AreRows (sym p.put) (are-put old x p.after a p.row (whole-graph.names x known-x))
-
-    pub longer-rows : length old ≤ length new
-    longer-rows = omega (arith, ap length p.put, longer-put old x p.after)
 
     pub alters-laid : AltersRow P (laid base old) (laid base new) x
     alters-laid = record {
@@ -274,26 +292,36 @@ module _ (base : Entries) (g : IsGraph base) (old : Entries) (a : AreRows old) (
       row = p.row;
     }
 
-    fits-put : IsGraph (laid base new) → Fits base (new, n)
+    fits-put : IsGraph (laid base new) → Fits base (new, names)
     fits-put whole = record {
-      created = sym (length-keys (laid base new)) ∙ ap length alters-laid.keys ∙ length-keys (laid base old) ∙ f.created;
+      vertices = alters-laid.keys ∙ f.vertices;
       targets = targets-from_graph base new g rows-put whole;
     }
 
+    -- its name is among those of the rows, the last where it was not there
+    pub keys-row : keys_of new ≡ insert_key bytes_eq (keys_of old) x
+    keys-row = ap keys_of p.put ∙ keys_insert_entry bytes_eq old x p.after
+
   module _ (new : Entries) (x y : List ℕ) (s : Rights) where
-    pub fits-adds : PutsRow (λ b c. Adds b c y s) base old new x → is_known (laid base old) y ≡ true → Fits base (new, n)
+    pub fits-adds : PutsRow (λ b c. Adds b c y s) base old new x → is_known (laid base old) y ≡ true → Fits base (new, names)
     fits-adds p k = fits-put new x p (is_graph-adds (laid base old) (laid base new) x y s (alters-laid new x p) whole-graph k)
 
     pub laid-adds : PutsRow (λ b c. Adds b c y s) base old new x → graph_of (laid base new) ≡ with_rights (graph_of (laid base old)) x y s
     laid-adds p = graph-adds (laid base old) (laid base new) x y s (alters-laid new x p)
 
-    pub fits-takes : PutsRow (λ b c. TakesAway b c y s) base old new x → Fits base (new, n)
+    pub fits-takes : PutsRow (λ b c. TakesAway b c y s) base old new x → Fits base (new, names)
     fits-takes p = fits-put new x p (is_graph-takes (laid base old) (laid base new) x y s (alters-laid new x p) whole-graph)
 
     pub laid-takes : PutsRow (λ b c. TakesAway b c y s) base old new x → graph_of (laid base new) ≡ without_rights (graph_of (laid base old)) x y s
     laid-takes p = graph-takes (laid base old) (laid base new) x y s (alters-laid new x p)
 
-  -- a vertex n is created, over which x has the rights of s
+    pub draft-adds : PutsRow (λ b c. Adds b c y s) base old new x → is_known (laid base old) y ≡ true → IsDraft (new, names)
+    draft-adds p k = draft-from_fits base (new, names) (rows-put new x p) (fits-adds p k)
+
+    pub draft-takes : PutsRow (λ b c. TakesAway b c y s) base old new x → IsDraft (new, names)
+    draft-takes p = draft-from_fits base (new, names) (rows-put new x p) (fits-takes p)
+
+  -- a vertex v is created, over which x has the rights of s
   module _ (mid new : Entries) (x v : List ℕ) (s : Rights) (p : PutsRow (λ b c. Adds b c v s) base old mid x) (last : new ≡ insert_entry bytes_eq mid v []) (fresh : is_known (laid base old) v ≡ false) (name : IsName v) where
     fresh-laid : is_known (laid base mid) v ≡ false
     fresh-laid = ap (list_any (bytes_eq v)) (alters-laid mid x p).keys ∙ fresh
@@ -317,14 +345,21 @@ module _ (base : Entries) (g : IsGraph base) (old : Entries) (a : AreRows old) (
     pub rows-created : AreRows new
     rows-created = subst AreRows (sym last) (are-put mid v [] (rows-put mid x p) (row_none [] refl) name)
 
-    pub longer-created : length old + 1 ≤ length new
-    longer-created = omega (arith, ap length p.put, longer-put old x p.after, ap length (last ∙ put-new mid v [] fresh-mid), length-append mid ((v, []) ∷ []))
+    pub keys-created : keys_of new ≡ set_all bytes_eq (keys_of old) (x ∷ v ∷ [])
+    keys-created = ap keys_of last ∙ keys_insert_entry bytes_eq mid v [] ∙ ap (λ ks. insert_key bytes_eq ks v) (keys-row mid x p)
 
     pub laid-creates : graph_of (laid base new) ≡ with_rights (with_vertex (graph_of (laid base old)) v) x v s
     laid-creates = ap graph_of laid-last ∙ graph-creates v x s (laid base old) (laid base mid) (alters-laid mid x p)
 
-    pub fits-creates : Fits base (new, n + 1)
+    pub fits-creates : Fits base (new, names ++ v ∷ [])
     fits-creates = record {
-      created = ap length laid-last ∙ omega (arith, length-append (laid base mid) ((v, []) ∷ []), sym (length-keys (laid base mid)), ap length (alters-laid mid x p).keys, length-keys (laid base old), f.created);
+      vertices =
+          ap keys_of laid-last
+          ∙ map-append (λ (e : List ℕ × Edges). e.0) (laid base mid) ((v, []) ∷ [])
+          ∙ ap (λ ks. ks ++ v ∷ []) ((alters-laid mid x p).keys ∙ f.vertices)
+          ∙ append_assoc (keys_of base) names (v ∷ []);
       targets = targets-from_graph base new g rows-created (subst IsGraph (sym laid-last) (is_graph-creates v x s (laid base old) (laid base mid) (alters-laid mid x p) whole-graph fresh name));
     }
+
+    pub draft-created : IsDraft (new, names ++ v ∷ [])
+    draft-created = draft-from_fits base (new, names ++ v ∷ []) rows-created fits-creates

@@ -1,12 +1,14 @@
 //! Changed rows and new vertices laid over a graph.
-ghost use Rattle.std.specs.Prelude.{◌≡◌, ◌+◌, ◌<◌, ◌≤◌, [], true, false, Some, IfOk, IfErr, OnOk, OnErr, bytes_eq, length};
+ghost use Rattle.std.specs.Prelude.{◌≡◌, ◌+◌, ◌<◌, ◌≤◌, [], ◌∷◌, true, false, Some, IfOk, IfErr, OnOk, OnErr, bytes_eq, length};
+ghost use Rattle.std.specs.Map.{keys_of};
 ghost use Rattle.indexmap.specs.IndexMap.{spare, insert_entry, insert_all};
+ghost use Rattle.indexmap.specs.IndexSet.{insert_key, insert_all as insert_all_keys};
 ghost use Rattle.tg_graph.specs.Sets.{IsNamed};
 ghost use Rattle.tg_graph.specs.Rows.{Entries, is_known, IsGraph, Adds, TakesAway};
 ghost use Rattle.tg_graph.specs.Graphs.{has_vertex};
 ghost use Rattle.tg_graph.specs.GraphOf.{graph_of};
 ghost use Rattle.tg_graph.specs.Rules.{verdict, Applies, rights_of, with_rights, without_rights, with_vertex, refusal_of, after};
-ghost use Rattle.tg_graph.specs.Drafts.{laid_over, Fits, PutsRow};
+ghost use Rattle.tg_graph.specs.Drafts.{laid_over, Fits, IsDraft, PutsRow, written_by, FittingIsByNames, ApartFit, ApartCommute};
 
 use crate::checks::{self, Rows};
 use crate::names::Name;
@@ -21,26 +23,26 @@ use std::marker::Model;
 
 /// Changed rows and new vertices, laid over a graph.
 ///
-/// A contract sees a draft as its rows and the number of created vertices; what it stands for over a graph is
-/// `laid_over`. The calls that are given a graph require that the draft fits it.
+/// A contract sees a draft as its rows and the created vertices; what it stands for over a graph is `laid_over`.
+/// The calls that are given a graph require that the draft fits it.
 #[derive(Drop)]
 pub struct Draft {
     rows: IndexMap<Name, SharedRow>,
-    created: usize,
+    created: Vec<Name>,
     alloc: Global,
 }
 
 impl Model for Draft {
-    ghost use Rattle.std.specs.Prelude.{List, ℕ, ◌≤◌, length};
+    ghost use Rattle.std.specs.Prelude.{List, ℕ};
     ghost use Rattle.tg_graph.specs.declared.right_sets.Rights.{Rights};
 
-    ghost Value = { List (List ℕ × List (List ℕ × Rights)) × ℕ };
+    ghost Value = { List (List ℕ × List (List ℕ × Rights)) × List (List ℕ) };
 
-    ghost use Rattle.tg_graph.specs.Drafts.{AreRows};
+    ghost use Rattle.tg_graph.specs.Drafts.{IsDraft};
 
-    ghost view = { λ d. (d.rows.entries, d.created) };
+    ghost view = { λ d. (d.rows.entries, d.created.items) };
 
-    ghost invariant = { λ d. AreRows d.rows.entries × (d.created ≤ length d.rows.entries) };
+    ghost invariant = { λ d. IsDraft (d.rows.entries, d.created.items) };
 }
 
 // A graph with a draft laid over it.
@@ -132,21 +134,22 @@ fn copied(rows: &IndexMap<Name, SharedRow>) -> Result<IndexMap<Name, SharedRow>,
 impl Draft {
     /// The draft that changes nothing. It fits each graph.
     pub fn new(alloc: Global) -> Draft
-        ensures value { result ≡ ([], 0) }
+        ensures value { result ≡ ([], []) }
         ensures fits { (base : Entries) → Fits base result }
     {
         Draft {
             rows: IndexMap::new(alloc),
-            created: 0,
+            created: Vec::new(alloc),
             alloc,
         }
     }
 
     /// How many vertices are created.
     pub fn created(&self) -> usize
-        ensures { result ≡ self.now.1 }
+        ensures value { result ≡ length self.now.1 }
+        ensures draft { IsDraft self.now }
     {
-        self.created
+        self.created.len()
     }
 
     /// Whether a name is a vertex of what the draft stands for.
@@ -173,6 +176,7 @@ impl Draft {
         requires target { has_vertex (graph_of (laid_over base.now self.old)) y ≡ true }
         ensures given { OnOk result
             (graph_of (laid_over base.now self.new) ≡ with_rights (graph_of (laid_over base.now self.old)) x y rights) }
+        ensures rows { OnOk result (keys_of self.new.0 ≡ insert_key bytes_eq (keys_of self.old.0) x) }
         ensures fits { Fits base.now self.new }
         ensures err { OnErr result (self.new ≡ self.old) }
     {
@@ -188,6 +192,7 @@ impl Draft {
         requires source { has_vertex (graph_of (laid_over base.now self.old)) x ≡ true }
         ensures taken { OnOk result
             (graph_of (laid_over base.now self.new) ≡ without_rights (graph_of (laid_over base.now self.old)) x y rights) }
+        ensures rows { OnOk result (keys_of self.new.0 ≡ insert_key bytes_eq (keys_of self.old.0) x) }
         ensures fits { Fits base.now self.new }
         ensures err { OnErr result (self.new ≡ self.old) }
     {
@@ -204,17 +209,18 @@ impl Draft {
         requires fresh { has_vertex (graph_of (laid_over base.now self.old)) n ≡ false }
         ensures created { OnOk result
             (graph_of (laid_over base.now self.new) ≡ with_rights (with_vertex (graph_of (laid_over base.now self.old)) n) x n rights) }
+        ensures rows { OnOk result (keys_of self.new.0 ≡ insert_all_keys bytes_eq (keys_of self.old.0) (x ∷ n ∷ [])) }
         ensures fits { Fits base.now self.new }
         ensures err { OnErr result (self.new ≡ self.old) }
     {
         let _ = base.len();
         let _ = n.as_bytes();
-        let _ = self.rows.len();
         let row = SharedRow::new(self.alloc)?;
         self.rows.reserve(2)?;
+        self.created.reserve(1)?;
         widen(&mut self.rows, base, x, n, rights)?;
         put(&mut self.rows, n, row);
-        self.created += 1;
+        self.created.push_reserved(n);
         Ok(())
     }
 
@@ -233,6 +239,8 @@ impl Draft {
         requires named { IsNamed (rights_of rule.now) }
         requires fits { Fits base.now self.old }
         ensures applied { Applies (graph_of (laid_over base.now self.old)) rule.now result (graph_of (laid_over base.now self.new)) }
+        // The names of its rows are those from before, and then the written ones that were not among them.
+        ensures rows { OnOk result (keys_of self.new.0 ≡ insert_all_keys bytes_eq (keys_of self.old.0) (written_by rule.now)) }
         ensures fits { Fits base.now self.new }
         ensures kept { OnErr result (self.new ≡ self.old) }
     {
@@ -274,7 +282,7 @@ impl Model for Ready {
     ghost use Rattle.indexmap.specs.IndexMap.{spare};
     ghost use Rattle.tg_graph.specs.declared.right_sets.Rights.{Rights};
 
-    ghost Value = { List (List ℕ × List (List ℕ × Rights)) × (List (List ℕ × List (List ℕ × Rights)) × ℕ) };
+    ghost Value = { List (List ℕ × List (List ℕ × Rights)) × (List (List ℕ × List (List ℕ × Rights)) × List (List ℕ)) };
 
     ghost use Rattle.tg_graph.specs.Rows.{IsGraph};
     ghost use Rattle.tg_graph.specs.Drafts.{Fits};
@@ -327,7 +335,7 @@ impl Ready {
 impl Graph {
     /// The draft over the graph that changes nothing.
     pub fn draft(&self) -> Draft
-        ensures value { result ≡ ([], 0) }
+        ensures value { result ≡ ([], []) }
         ensures fits { Fits self.now result }
     {
         Draft::new(self.allocator())
@@ -357,3 +365,16 @@ impl Graph {
         }
     }
 }
+
+/// A draft fits a graph exactly where no created name is a vertex there, and each source and each target of its
+/// rows is a vertex there or created.
+pub fn drafts_fit_by_names()
+    ensures { FittingIsByNames }
+{}
+
+/// Of drafts over one graph that have no row in common each fits what the other makes of the graph, and what both
+/// make of it is the same whichever is laid first.
+pub fn drafts_apart_commute()
+    ensures fit { ApartFit }
+    ensures same { ApartCommute }
+{}

@@ -9,7 +9,7 @@ pub lay-requires : goal.lay-requires
 lay-requires c =
     let base = c.args.base.now in
     subst IsGraph (λ i. insert_all bytes_eq (sym c.in_ok-whole.ensures i) (sym c.in_ok-rows.ensures i))
-    (whole-graph base c.len.ensures.graph c.self.inside.rows.entries c.self.invariant.0 c.self.inside.created (subst (Fits base) (sym c.self.view_is) c.requires))
+    (whole-graph base c.len.ensures.graph c.self.inside.rows.entries c.self.invariant.rows c.self.inside.created.items (subst (Fits base) (sym c.self.view_is) c.requires))
 
 pub returns : goal.returns
 returns c =

@@ -8,12 +8,12 @@ pub returns-in-Some : goal.returns-in-Some
 returns-in-Some c =
     let base = c.args.self.now.base.now in
     ap Some c.edges.ensures
-    ∙ laid-there base c.draft.inside.rows.entries c.args.x c.draft.invariant.0.apart c.in-Some.row.now c.in-Some.ensures.value
+    ∙ laid-there base c.draft.inside.rows.entries c.args.x c.draft.invariant.rows.apart c.in-Some.row.now c.in-Some.ensures.value
     ∙ ap (λ d. lookup (bytes_eq c.args.x) (laid_over base d)) c.draft.view_is
 
 pub returns-in-None : goal.returns-in-None
 returns-in-None c =
     let base = c.args.self.now.base.now in
     c.row.ensures
-    ∙ laid-below base c.draft.inside.rows.entries c.args.x c.draft.invariant.0.apart c.in-None.ensures.value
+    ∙ laid-below base c.draft.inside.rows.entries c.args.x c.draft.invariant.rows.apart c.in-None.ensures.value
     ∙ ap (λ d. lookup (bytes_eq c.args.x) (laid_over base d)) c.draft.view_is

@@ -11,4 +11,4 @@ from_rows-requires c =
     let base = c.self.inside.rows.entries in
     let room = subst (λ d. length d.0 ≤ spare c.self.inside.rows) (sym c.draft.view_is) c.self.invariant.2 in
     subst IsGraph (sym (on_ok-is c.append.result (c.append.ensures.succeeds room) c.append.ensures.entries))
-    (whole-graph base c.self.invariant.0 c.draft.inside.rows.entries c.draft.invariant.0 c.draft.inside.created (subst (Fits base) (sym c.draft.view_is) c.self.invariant.1))
+    (whole-graph base c.self.invariant.0 c.draft.inside.rows.entries c.draft.invariant.rows c.draft.inside.created.items (subst (Fits base) (sym c.draft.view_is) c.self.invariant.1))
