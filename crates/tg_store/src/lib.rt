@@ -8,7 +8,6 @@ mod events;
 mod halls;
 #[cfg(test)]
 mod memory_tests;
-mod overlays;
 mod records;
 mod replays;
 mod seats;
