@@ -2,8 +2,8 @@ pub mod Ordered
 pub mod Told
 pub mod Agreement
 pub mod Crowds
+pub mod Commuting
 pub mod SeatLemmas
+pub mod Numbers
 pub mod HallLemmas
 pub mod RunLemmas
-pub mod Numbers
-pub mod Learning

@@ -1,16 +1,19 @@
 //! A monitor in one thread: seats that take in one history of committed sessions.
 #![tactic(auto)]
 
-pub mod answers;
-pub mod events;
-pub mod halls;
+#[cfg(test)]
+mod answer_tests;
+mod answers;
+mod events;
+mod halls;
 #[cfg(test)]
 mod memory_tests;
-mod overlays;
-pub mod records;
+mod records;
 mod replays;
 mod seats;
 mod spoilers;
+#[cfg(test)]
+mod test_helpers;
 #[cfg(test)]
 mod tests;
 
