@@ -104,7 +104,7 @@ edge_from g words h v =
 abbrev failed : Result ProtectionGraph TextKind
 failed = Err BadWord
 
-graph_item_ok : (n : ℕ) (g : ProtectionGraph) (words : List Word) (h : ProtectionGraph) → graph_item g words ≡ Ok h → IsGraphItem g words h
+pub graph_item_ok : (n : ℕ) (g : ProtectionGraph) (words : List Word) (h : ProtectionGraph) → graph_item g words ≡ Ok h → IsGraphItem g words h
 unfolding graph_item
 graph_item_ok n g [] h e = absurd cc
 graph_item_ok n g (word ∷ words) h e =
@@ -116,7 +116,7 @@ graph_item_ok n g (word ∷ words) h e =
       ]
     ]
 
-graph_item_from : (n : ℕ) (g : ProtectionGraph) (words : List Word) (h : ProtectionGraph) → IsGraphItem g words h → graph_item g words ≡ Ok h
+pub graph_item_from : (n : ℕ) (g : ProtectionGraph) (words : List Word) (h : ProtectionGraph) → IsGraphItem g words h → graph_item g words ≡ Ok h
 graph_item_from n g words h (inl v) = vertex_from g words h v
 graph_item_from n g words h (inr v) = edge_from g words h v
 

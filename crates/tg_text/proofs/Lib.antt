@@ -4,6 +4,10 @@ pub mod GrammarLaws
 pub mod RuleLaws
 pub mod GraphLaws
 pub mod ScriptLaws
+pub mod LeastKind
+pub mod FormKinds
+pub mod GraphKinds
+pub mod KindLaws
 pub mod Letters
 pub mod NameOrder
 pub mod RowLines

@@ -164,14 +164,14 @@ rule_line_from : (n : ℕ) (words : List Word) (rule : Rule) → rule_of_words w
 unfolding rule_line
 rule_line_from n words rule e = ap (λ (r : Result Rule TextKind). r >>= λ rule. Ok (rule_at n rule)) e
 
-rule_item_ok : (n : ℕ) (rules : List RuleLine) (words : List Word) (more : List RuleLine) → rule_item n rules words ≡ Ok more → IsRuleItem n rules words more
+pub rule_item_ok : (n : ℕ) (rules : List RuleLine) (words : List Word) (more : List RuleLine) → rule_item n rules words ≡ Ok more → IsRuleItem n rules words more
 unfolding rule_item
 rule_item_ok n rules words more e =
     let i = item_ok most_entries rules (rule_line n words) more e in
     let l = rule_line_ok n words i.0 i.1 in
     (l.0, rule_ok words l.0 l.1, i.2, i.3 ∙ ap (λ (x : RuleLine). rules ++ x ∷ []) l.2)
 
-rule_item_from : (n : ℕ) (rules : List RuleLine) (words : List Word) (more : List RuleLine) → IsRuleItem n rules words more → rule_item n rules words ≡ Ok more
+pub rule_item_from : (n : ℕ) (rules : List RuleLine) (words : List Word) (more : List RuleLine) → IsRuleItem n rules words more → rule_item n rules words ≡ Ok more
 unfolding rule_item
 rule_item_from n rules words more h =
     item_from most_entries rules (rule_line n words) (rule_at n h.0) more (rule_line_from n words h.0 (rule_from words h.0 h.1)) h.2 h.3

@@ -228,10 +228,10 @@ header_from name limit words n h =
 
 -- ---- the whole
 
-abbrev State : Type 0
+abbrev pub State : Type 0
 State = Header × List ScriptLine
 
-item_is : (n : ℕ) (state : State) (words : List Word) (next : State) → script_item n state words ≡ Ok next → IsScriptItem n state words next
+pub item_is : (n : ℕ) (state : State) (words : List Word) (next : State) → script_item n state words ≡ Ok next → IsScriptItem n state words next
 unfolding script_item
 item_is n (Nothing, lines) words next e =
     let b = bind_ok (header_number (codes "seats") most_seats words) (λ seats. Ok (Seats seats, lines)) next e in
@@ -243,13 +243,13 @@ item_is n (Whole seats cells, lines) words next e =
     let b = bind_ok (event_item n seats lines words) (λ more. Ok (Whole seats cells, more)) next e in
     (b.0, event_ok n seats lines words b.0 b.1, sym (ok_is (Whole seats cells, b.0) next b.2))
 
-item_back : (n : ℕ) (state : State) (words : List Word) (next : State) → IsScriptItem n state words next → script_item n state words ≡ Ok next
+pub item_back : (n : ℕ) (state : State) (words : List Word) (next : State) → IsScriptItem n state words next → script_item n state words ≡ Ok next
 unfolding script_item
 item_back n (Nothing, lines) words next h = ap (λ (r : Result ℕ TextKind). r >>= λ seats. Ok (Seats seats, lines)) (header_from (codes "seats") most_seats words h.0 h.1) ∙ ap Ok (sym h.2)
 item_back n (Seats seats, lines) words next h = ap (λ (r : Result ℕ TextKind). r >>= λ cells. Ok (Whole seats cells, lines)) (header_from (codes "cells") most_cells words h.0 h.1) ∙ ap Ok (sym h.2)
 item_back n (Whole seats cells, lines) words next h = ap (λ (r : Result (List ScriptLine) TextKind). r >>= λ more. Ok (Whole seats cells, more)) (event_from n seats lines words h.0 h.1) ∙ ap Ok (sym h.2)
 
-abbrev start : State
+abbrev pub start : State
 start = (Nothing, [])
 
 abbrev script_with : ℕ → ℕ → List ScriptLine → ScriptOf
@@ -275,7 +275,7 @@ script_texts_are_those text script = (
 abbrev script_fault : ℕ → TextKind → Result ScriptOf (ℕ × TextKind)
 script_fault n kind = Err (n, kind)
 
-partial : (text : List ℕ) (state : State) (m : ℕ) (kind : TextKind) → AreLines IsScriptItem 1 start (lines_of text) state → with_header (length (lines_of text) + 1) state ≡ Err (m, kind) → EndsEarly (lines_of text) m
+pub partial : (text : List ℕ) (state : State) (m : ℕ) (kind : TextKind) → AreLines IsScriptItem 1 start (lines_of text) state → with_header (length (lines_of text) + 1) state ≡ Err (m, kind) → EndsEarly (lines_of text) m
 partial text (Nothing, lines) m kind h e = record { number = sym (same_number (script_fault (length (lines_of text) + 1) NoHeader) m (length (lines_of text) + 1) NoHeader kind refl e); header = Nothing; events = lines; read = h; partial = tt }
 partial text (Seats seats, lines) m kind h e = record { number = sym (same_number (script_fault (length (lines_of text) + 1) NoHeader) m (length (lines_of text) + 1) NoHeader kind refl e); header = Seats seats; events = lines; read = h; partial = tt }
 partial text (Whole seats cells, lines) m kind h e = absurd cc

@@ -10,6 +10,8 @@ pub mod Grammar
 pub mod GraphGrammar
 pub mod RuleGrammar
 pub mod ScriptGrammar
+pub mod Forms
+pub mod FaultKinds
 pub mod Spelling
 pub mod Canonical
 pub mod CanonicalLaws

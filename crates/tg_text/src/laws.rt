@@ -5,6 +5,7 @@ ghost use Rattle.tg_text.specs.RoundTrips.{GraphsAreReadAsWritten, ListsAreReadA
 ghost use Rattle.tg_text.specs.GraphGrammar.{GraphTextsAreThose, GraphFaultsAreFirst};
 ghost use Rattle.tg_text.specs.RuleGrammar.{RuleLinesAreThose, RulesTextsAreThose, RuleFaultsAreFirst};
 ghost use Rattle.tg_text.specs.ScriptGrammar.{ScriptTextsAreThose, ScriptFaultsAreFirst};
+ghost use Rattle.tg_text.specs.FaultKinds.{GraphLineKinds, GraphTextKinds, OneRuleKinds, RuleLineKinds, RulesTextKinds, ScriptLineKinds, ScriptTextKinds, NoHeaderIsEndsEarly};
 
 /// A text has a graph exactly where the grammar gives it that graph, and a fault names the
 /// first line to which the grammar gives none.
@@ -27,6 +28,33 @@ pub fn rule_grammar()
 pub fn script_grammar()
     ensures texts { ScriptTextsAreThose }
     ensures faults { ScriptFaultsAreFirst }
+{}
+
+/// A line of a graph is refused exactly with the least kind whose condition holds in it, and the fault of a
+/// text has the least kind of its line.
+pub fn graph_faults_have_the_least_kind()
+    ensures lines { GraphLineKinds }
+    ensures texts { GraphTextKinds }
+{}
+
+/// A line that is to be one rule, and a line of rules, is refused exactly with the least kind whose condition
+/// holds in it, and the fault of a text has the least kind of its line.
+pub fn rule_faults_have_the_least_kind()
+    ensures one { OneRuleKinds }
+    ensures lines { RuleLineKinds }
+    ensures texts { RulesTextKinds }
+{}
+
+/// A line of a script is refused exactly with the least kind whose condition holds in it, and the fault of a
+/// text has the least kind of its line, or comes of a text that ends early.
+pub fn script_faults_have_the_least_kind()
+    ensures lines { ScriptLineKinds }
+    ensures texts { ScriptTextKinds }
+{}
+
+/// `NoHeader` comes exactly where the text of a script ends before both header lines, on the line behind the last.
+pub fn no_header_is_an_early_end()
+    ensures { NoHeaderIsEndsEarly }
 {}
 
 /// The name order of names is one list: each name once, each before those that are greater.
