@@ -8,6 +8,9 @@ pub mod LeastKind
 pub mod FormKinds
 pub mod GraphKinds
 pub mod KindLaws
+pub mod LineCuts
+pub mod WordCuts
+pub mod NumberLaws
 pub mod Letters
 pub mod NameOrder
 pub mod RowLines

@@ -19,15 +19,15 @@ use Rattle.tg_text.proofs.ScriptLaws.{script_texts_are_those}
 use Rattle.tg_graph.specs.Limits.{most_cells, most_seats}
 
 -- ---- numbers
-if_some : (t : Bool) (o : Option ℕ) (v : ℕ) → cond t o None ≡ Some v → (t ≡ true) × (o ≡ Some v)
+pub if_some : (t : Bool) (o : Option ℕ) (v : ℕ) → cond t o None ≡ Some v → (t ≡ true) × (o ≡ Some v)
 if_some true o v e = (refl, e)
 if_some false o v e = absurd cc
 
-if_none : (t : Bool) (o : Option ℕ) (v : ℕ) → cond t None o ≡ Some v → (t ≡ false) × (o ≡ Some v)
+pub if_none : (t : Bool) (o : Option ℕ) (v : ℕ) → cond t None o ≡ Some v → (t ≡ false) × (o ≡ Some v)
 if_none true o v e = absurd cc
 if_none false o v e = (refl, e)
 
-same_number : (n v : ℕ) → Some n ≡ Some v → n ≡ v
+pub same_number : (n v : ℕ) → Some n ≡ Some v → n ≡ v
 same_number n v e = cc
 
 digits_grow : (n : ℕ) (word : Word) (v : ℕ) → with_digits n word ≡ Some v → n ≤ v
@@ -43,7 +43,7 @@ no_zero : (b : ℕ) → eqb b 48 ≡ false → (b ≡ 48 → ⊥)
 no_zero b e = grind (arith, nat_tests)
 
 -- a number is not 0
-number_is_some : (word : Word) (v : ℕ) → number_of word ≡ Some v → 0 < v
+pub number_is_some : (word : Word) (v : ℕ) → number_of word ≡ Some v → 0 < v
 number_is_some [] v e = absurd cc
 number_is_some (b ∷ bs) v e =
     let front = if_none (eqb b 48 || ltb 3 (length bs)) (with_digits 0 (b ∷ bs)) v e in

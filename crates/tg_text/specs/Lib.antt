@@ -12,6 +12,7 @@ pub mod RuleGrammar
 pub mod ScriptGrammar
 pub mod Forms
 pub mod FaultKinds
+pub mod WordLaws
 pub mod Spelling
 pub mod Canonical
 pub mod CanonicalLaws

@@ -5,6 +5,7 @@ ghost use Rattle.tg_text.specs.RoundTrips.{GraphsAreReadAsWritten, ListsAreReadA
 ghost use Rattle.tg_text.specs.GraphGrammar.{GraphTextsAreThose, GraphFaultsAreFirst};
 ghost use Rattle.tg_text.specs.RuleGrammar.{RuleLinesAreThose, RulesTextsAreThose, RuleFaultsAreFirst};
 ghost use Rattle.tg_text.specs.ScriptGrammar.{ScriptTextsAreThose, ScriptFaultsAreFirst};
+ghost use Rattle.tg_text.specs.WordLaws.{LinesExactly, BlanksExactly, WordsExactly, NumberWordsExactly, NumbersAreDecimal};
 ghost use Rattle.tg_text.specs.FaultKinds.{GraphLineKinds, GraphTextKinds, OneRuleKinds, RuleLineKinds, RulesTextKinds, ScriptLineKinds, ScriptTextKinds, NoHeaderIsEndsEarly};
 
 /// A text has a graph exactly where the grammar gives it that graph, and a fault names the
@@ -55,6 +56,25 @@ pub fn script_faults_have_the_least_kind()
 /// `NoHeader` comes exactly where the text of a script ends before both header lines, on the line behind the last.
 pub fn no_header_is_an_early_end()
     ensures { NoHeaderIsEndsEarly }
+{}
+
+/// The lines of a text are those that give it with a line feed behind each, but that the last one, if it is not
+/// empty, may lack its own; and no line has a line feed in it.
+pub fn lines_are_exact()
+    ensures { LinesExactly }
+{}
+
+/// The words of a line are its longest runs without blanks, in turn; a blank is a space, a tab or a carriage
+/// return.
+pub fn words_are_exact()
+    ensures blanks { BlanksExactly }
+    ensures words { WordsExactly }
+{}
+
+/// A number is one to four digits, the first not 0, and its value is the one that they write in decimal.
+pub fn numbers_are_exact()
+    ensures words { NumberWordsExactly }
+    ensures values { NumbersAreDecimal }
 {}
 
 /// The name order of names is one list: each name once, each before those that are greater.
