@@ -9,6 +9,7 @@ use Rattle.tg_text.specs.Words.{Word}
 use Rattle.tg_text.specs.Reading.{◌>>=◌, on_line, after_line, after_lines}
 use Rattle.tg_text.specs.Grammar.{IsLine, AreLines, IsFirstFault}
 use Rattle.tg_text.proofs.Steps.{ok_is, else_ok}
+use Rattle.tg_text.specs.Limits.{most_line_bytes}
 
 pub cases_result : {A E : Type 0} (r : Result A E) → ((x : A) × (r ≡ Ok x)) ⊎ ((e : E) × (r ≡ Err e))
 cases_result (Ok x) = inl (x, refl)
@@ -47,15 +48,15 @@ module _ {A : Type 0} (f : ℕ → A → List Word → Result A TextKind) (R : �
     (back : (n : ℕ) (a : A) (words : List Word) (b : A) → R n a words b → f n a words ≡ Ok b) where
   line_ok : (n : ℕ) (a : A) (line : List ℕ) (b : A) → after_line (f n) a line ≡ Ok b → IsLine (R n) a line b
   line_ok n a line b e =
-      let g = else_ok (ltb 256 (length line)) LineTooLong (cond (is_skipped (words_of line)) (Ok a) (f n a (words_of line))) b e in
+      let g = else_ok (ltb most_line_bytes (length line)) LineTooLong (cond (is_skipped (words_of line)) (Ok a) (f n a (words_of line))) b e in
       record {
-        short = ltb-false 256 (length line) g.0;
+        short = ltb-false most_line_bytes (length line) g.0;
         means = skipped_or_not (is_skipped (words_of line)) (Ok a) (f n a (words_of line)) (Ok b) g.1 (λ same. sym (ok_is a b same)) (λ item. into n a (words_of line) b item);
       }
 
   line_from : (n : ℕ) (a : A) (line : List ℕ) (b : A) → IsLine (R n) a line b → after_line (f n) a line ≡ Ok b
   line_from n a line b h =
-      let short : ltb 256 (length line) ≡ false = le-ltb 256 (length line) h.short in
+      let short : ltb most_line_bytes (length line) ≡ false = le-ltb most_line_bytes (length line) h.short in
       let rest : cond (is_skipped (words_of line)) (Ok a) (f n a (words_of line)) ≡ Ok b = chosen_from (is_skipped (words_of line)) (Ok a) (f n a (words_of line)) (Ok b) h.means (λ same. ap Ok (sym same)) (λ item. back n a (words_of line) b item) in
       ap (λ (t : Bool). cond t (Err LineTooLong) (cond (is_skipped (words_of line)) (Ok a) (f n a (words_of line)))) short ∙ rest
 
@@ -73,30 +74,41 @@ module _ {A : Type 0} (f : ℕ → A → List Word → Result A TextKind) (R : �
   lines_from n a [] b h = ap Ok (sym h)
   lines_from n a (line ∷ lines) b h = step n a line lines (Ok h.0) (line_from n a line h.0 h.1) ∙ lines_from (n + 1) h.0 lines b h.2
 
-  pub lines_fault : (n : ℕ) (a : A) (lines : List (List ℕ)) (m : ℕ) (kind : TextKind) → after_lines f n a lines ≡ Err (m, kind) → IsFirstFault R n a lines m
-  lines_fault n a [] m kind e = absurd cc
-  lines_fault n a (line ∷ lines) m kind e =
+  -- the first faulty line, and that reading refuses it for this kind
+  pub lines_fault_kind : (n : ℕ) (a : A) (lines : List (List ℕ)) (m : ℕ) (kind : TextKind) → after_lines f n a lines ≡ Err (m, kind) → (first : IsFirstFault R n a lines m) × (after_line (f m) first.before first.line ≡ Err kind)
+  lines_fault_kind n a [] m kind e = absurd cc
+  lines_fault_kind n a (line ∷ lines) m kind e =
       elim (cases_result (after_line (f n) a line)) [
         | inl c ↦ (
-            let later = lines_fault (n + 1) c.0 lines m kind (sym (step n a line lines (Ok c.0) c.1) ∙ e) in
-            record {
-              place = suc later.place;
-              number = omega (arith, later.number);
-              line = later.line;
-              found = later.found;
-              before = later.before;
-              earlier = (c.0, line_ok n a line c.0 c.1, later.earlier);
-              nowhere = later.nowhere;
-            })
+            let further = lines_fault_kind (n + 1) c.0 lines m kind (sym (step n a line lines (Ok c.0) c.1) ∙ e) in
+            let later = further.0 in (
+              record {
+                place = suc later.place;
+                number = omega (arith, later.number);
+                line = later.line;
+                found = later.found;
+                before = later.before;
+                earlier = (c.0, line_ok n a line c.0 c.1, later.earlier);
+                nowhere = later.nowhere;
+              },
+              further.1,
+            ))
         | inr d ↦ (
+            let stopped = sym (step n a line lines (Err d.0) d.1) ∙ e in
             let same : n ≡ m = same_number (after_lines f n a (line ∷ lines)) m n d.0 kind (step n a line lines (Err d.0) d.1) e in
-            record {
-              place = 0;
-              number = omega arith;
-              line = line;
-              found = refl;
-              before = a;
-              earlier = refl;
-              nowhere = λ b h. let read : after_line (f m) a line ≡ Ok b = line_from m a line b h in let other : after_line (f m) a line ≡ Err d.0 = rw (← same) d.1 in cc;
-            })
+            let refused : after_line (f m) a line ≡ Err d.0 = rw (← same) d.1 in (
+              record {
+                place = 0;
+                number = omega arith;
+                line = line;
+                found = refl;
+                before = a;
+                earlier = refl;
+                nowhere = λ b h. let read : after_line (f m) a line ≡ Ok b = line_from m a line b h in cc;
+              },
+              refused ∙ ap Err (ap (λ (x : ℕ × TextKind). x.1) (same_fault A (n, d.0) (m, kind) stopped)),
+            ))
       ]
+
+  pub lines_fault : (n : ℕ) (a : A) (lines : List (List ℕ)) (m : ℕ) (kind : TextKind) → after_lines f n a lines ≡ Err (m, kind) → IsFirstFault R n a lines m
+  lines_fault n a lines m kind e = (lines_fault_kind n a lines m kind e).0

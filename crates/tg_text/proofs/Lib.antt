@@ -4,6 +4,13 @@ pub mod GrammarLaws
 pub mod RuleLaws
 pub mod GraphLaws
 pub mod ScriptLaws
+pub mod LeastKind
+pub mod FormKinds
+pub mod GraphKinds
+pub mod KindLaws
+pub mod LineCuts
+pub mod WordCuts
+pub mod NumberLaws
 pub mod Letters
 pub mod NameOrder
 pub mod RowLines

@@ -1,6 +1,6 @@
 -- Words written with single spaces, and lines that end in a line feed, are read as they were written.
 use Rattle.std.proofs.Common.{◌≡◌, ℕ, ◌+◌, ◌<◌, ◌≤◌, Bool, true, false, ◌&&◌, not, ◌==◌, nat_lt, List, [], ◌∷◌, ◌++◌, length, None, Some, Result, Ok, Err, refl, sym, ap, ◌∙◌, arith, if◌then◌else◌, is_ok}
-use Rattle.std.specs.List.{AllByRecursion, list_all, onto_first}
+use Rattle.std.specs.List.{AllByRecursion, list_all}
 use Rattle.std.proofs.lemmas.List.{append_assoc, append-nil}
 use Rattle.std.proofs.lemmas.Bool.{and_parts, not-true}
 use Rattle.std.proofs.lemmas.Bool.Decides.{nat_tests}
@@ -20,6 +20,9 @@ use Rattle.tg_text.specs.Words.{Word, name_at}
 use Rattle.tg_text.specs.Spelling.{spaced, or_dash, rights_text}
 use Rattle.tg_text.specs.Canonical.{line_of}
 use Rattle.tg_text.proofs.Letters.{length-letters}
+use Rattle.tg_text.proofs.LineCuts.{NoFeed, line_first}
+use Rattle.tg_text.proofs.WordCuts.{word_first}
+use Rattle.tg_text.specs.Limits.{most_line_bytes}
 
 -- ---- words without blanks and line feeds
 abbrev is_plain : ℕ → Bool
@@ -47,16 +50,12 @@ pub word_from_test : (word : Word) → list_all is_plain word ≡ true → nat_l
 word_from_test word e l = record { some = grind (arith, nat_tests); plain = plain_from_test word e }
 
 -- ---- the words of a line
+plain_no_blanks : (word : List ℕ) → Plain word → AllByRecursion (λ b. is_blank b ≡ false) word
+plain_no_blanks [] p = tt
+plain_no_blanks (b ∷ bs) p = (plain_not_blank b p.0, plain_no_blanks bs p.1)
+
 word-read : (word rest : List ℕ) → 0 < length word → Plain word → begins_with_word rest ≡ false → words_of (word ++ rest) ≡ word ∷ words_of rest
-word-read [] rest l p e = absurd (omega arith)
-word-read (b ∷ []) rest l p e =
-    ap (λ x. if x then words_of rest else (if begins_with_word rest then onto_first b (words_of rest) else (b ∷ []) ∷ words_of rest)) (plain_not_blank b p.0)
-    ∙ ap (λ x. if x then onto_first b (words_of rest) else (b ∷ []) ∷ words_of rest) e
-word-read (b ∷ c ∷ cs) rest l p e =
-    let more = c ∷ (cs ++ rest) in
-    ap (λ x. if x then words_of more else (if begins_with_word more then onto_first b (words_of more) else (b ∷ []) ∷ words_of more)) (plain_not_blank b p.0)
-    ∙ ap (λ x. if not x then onto_first b (words_of more) else (b ∷ []) ∷ words_of more) (plain_not_blank c p.1.0)
-    ∙ ap (onto_first b) (word-read (c ∷ cs) rest (omega arith) p.1 e)
+word-read word rest l p e = word_first word rest l (plain_no_blanks word p) e
 
 pub words-spaced : (words : List Word) → AllByRecursion IsPlainWord words → words_of (spaced words) ≡ words
 words-spaced [] a = refl
@@ -65,14 +64,6 @@ words-spaced (word ∷ next ∷ words) a =
     word-read word (32 ∷ spaced (next ∷ words)) a.0.some a.0.plain refl ∙ ap (λ ws. word ∷ ws) (words-spaced (next ∷ words) a.1)
 
 -- ---- the lines of a text
-abbrev NoFeed : List ℕ → Type 0
-NoFeed = AllByRecursion (λ b. (b == 10) ≡ false)
-
-line-read : (line rest : List ℕ) → NoFeed line → lines_of (line ++ (10 ∷ rest)) ≡ line ∷ lines_of rest
-line-read [] rest n = refl
-line-read (b ∷ bs) rest n =
-    ap (λ x. if x then [] ∷ lines_of (bs ++ (10 ∷ rest)) else onto_first b (lines_of (bs ++ (10 ∷ rest)))) n.0 ∙ ap (onto_first b) (line-read bs rest n.1)
-
 no_feed-append : (xs ys : List ℕ) → Plain xs → NoFeed ys → NoFeed (xs ++ ys)
 no_feed-append [] ys p n = n
 no_feed-append (x ∷ xs) ys p n = (plain_not_feed x p.0, no_feed-append xs ys p.1 n)
@@ -87,7 +78,7 @@ no_feed-spaced (word ∷ []) a = no_feed-plain word a.0.plain
 no_feed-spaced (word ∷ next ∷ words) a = no_feed-append word (32 ∷ spaced (next ∷ words)) a.0.plain (refl, no_feed-spaced (next ∷ words) a.1)
 
 pub lines-spaced : (words : List Word) (rest : List ℕ) → AllByRecursion IsPlainWord words → lines_of (line_of words ++ rest) ≡ spaced words ∷ lines_of rest
-lines-spaced words rest a = ap lines_of (append_assoc (spaced words) (10 ∷ []) rest) ∙ line-read (spaced words) rest (no_feed-spaced words a)
+lines-spaced words rest a = ap lines_of (append_assoc (spaced words) (10 ∷ []) rest) ∙ line_first (spaced words) rest (no_feed-spaced words a)
 
 -- ---- names and letters are plain words
 fits-plain : (k b : ℕ) → fits_at k b ≡ true → is_plain b ≡ true
@@ -145,9 +136,9 @@ name_at-is v n = ap (λ r. if is_ok r then Ok v else Err BadName) (found v n.som
         ∙ ap (λ b. if b then Err TooLong else checked v (first_bad 0 v)) within ∙ ap (checked v) e
 
 -- a line that is not too long and not skipped, by its words
-pub line-is : {A : Type 0} (item : A → List Word → Result A TextKind) (a : A) (words : List Word) → AllByRecursion IsPlainWord words → length (spaced words) ≤ 256 → is_skipped words ≡ false
+pub line-is : {A : Type 0} (item : A → List Word → Result A TextKind) (a : A) (words : List Word) → AllByRecursion IsPlainWord words → length (spaced words) ≤ most_line_bytes → is_skipped words ≡ false
     → after_line item a (spaced words) ≡ item a words
 line-is item a words p l s =
-    let short : nat_lt 256 (length (spaced words)) ≡ false = grind (arith, nat_tests) in
+    let short : nat_lt most_line_bytes (length (spaced words)) ≡ false = grind (arith, nat_tests) in
     ap (λ b. if b then Err LineTooLong else (if is_skipped (words_of (spaced words)) then Ok a else item a (words_of (spaced words)))) short
     ∙ ap (λ ws. if is_skipped ws then Ok a else item a ws) (words-spaced words p) ∙ ap (λ b. if b then Ok a else item a words) s

@@ -1,3 +1,4 @@
+pub mod Limits
 pub mod Lines
 pub mod Reading
 pub mod Words
@@ -9,6 +10,9 @@ pub mod Grammar
 pub mod GraphGrammar
 pub mod RuleGrammar
 pub mod ScriptGrammar
+pub mod Forms
+pub mod FaultKinds
+pub mod WordLaws
 pub mod Spelling
 pub mod Canonical
 pub mod CanonicalLaws

@@ -1,0 +1,11 @@
+use Rattle.tg_text.proofs.KindLaws.{one_rule_kinds, rule_line_kinds, rules_text_kinds}
+use Rattle.tg_text.proofs.laws.rule_faults_have_the_least_kind.Goals as goal
+
+pub returns-clause-one : goal.returns-clause-one
+returns-clause-one c = one_rule_kinds
+
+pub returns-clause-lines : goal.returns-clause-lines
+returns-clause-lines c = rule_line_kinds
+
+pub returns-clause-texts : goal.returns-clause-texts
+returns-clause-texts c = rules_text_kinds

@@ -1,0 +1,8 @@
+use Rattle.tg_text.proofs.KindLaws.{script_line_kinds, script_text_kinds}
+use Rattle.tg_text.proofs.laws.script_faults_have_the_least_kind.Goals as goal
+
+pub returns-clause-lines : goal.returns-clause-lines
+returns-clause-lines c = script_line_kinds
+
+pub returns-clause-texts : goal.returns-clause-texts
+returns-clause-texts c = script_text_kinds
