@@ -9,7 +9,7 @@ use Rattle.tg_graph.specs.Graphs.{Name, same_name, ProtectionGraph, has_vertex, 
 use Rattle.tg_graph.specs.RuleLists.{CanShare, after_all}
 use Rattle.tg_graph.proofs.Rows.{same_bytes}
 use Rattle.tg_analysis.specs.Sharing.{linked, IsChain, NoRepeat, HeldInIsland}
-use Rattle.tg_analysis.specs.Derivations.{end_of, IsCarried, IsDerivation}
+use Rattle.tg_analysis.specs.Derivations.{end_of, IsCarried, IsDerivation, DerivationsAreShort}
 use Rattle.tg_analysis.specs.Searches.{is_among, IsWay}
 use Rattle.tg_analysis.proofs.NameTests.{same_refl}
 use Rattle.tg_analysis.proofs.OneIsland.{linked_sym}
@@ -94,3 +94,6 @@ module _ (g : ProtectionGraph) (well : WellFormed g) (right : Right) (x y : Name
 
   pub none_derives : IsTrue (has_vertex g x) → IsTrue (has_vertex g y) → (HeldInIsland g right x y → ⊥) → CanShare g right x y → ⊥
   none_derives x_there y_there none can = none (no_other g right x y well x_there y_there can)
+
+pub derivations_are_short : DerivationsAreShort
+derivations_are_short g right x y rules d = omega (arith, d.few, short_enough g x d.chain d.holder d.joined d.apart)

@@ -8,6 +8,7 @@ use Rattle.tg_graph.specs.declared.right_sets.Right.TheVariants.{T, G}
 use Rattle.tg_graph.specs.declared.rules.Rule.{Rule}
 use Rattle.tg_graph.specs.declared.rules.Rule.TheVariants.{Take, Grant}
 use Rattle.tg_graph.specs.Names.{helper_name}
+use Rattle.tg_graph.specs.Limits.{most_vertices}
 use Rattle.tg_graph.specs.Graphs.{Name, same_name, ProtectionGraph, has_vertex, WellFormed}
 use Rattle.tg_graph.specs.RuleLists.{after_all}
 use Rattle.tg_graph.proofs.Digits.{name-decimal}
@@ -106,7 +107,7 @@ linked_ends g well p q link = go (link_of g p q link)
     go (grants e) = well.ends p G q e
     go (taken e) = let ends = well.ends q T p e in (ends.1, ends.0)
 
-pub goes_on : (g : ProtectionGraph) (right : Right) (y p : Name) (rules more all : List Rule) (next last : ℕ) → all ≡ rules ++ more → IsUnderway g right y p (rules ++ more) last → length more ≤ 4 → last ≤ next + 1025 → GoesOn g right y p rules all next last
+pub goes_on : (g : ProtectionGraph) (right : Right) (y p : Name) (rules more all : List Rule) (next last : ℕ) → all ≡ rules ++ more → IsUnderway g right y p (rules ++ more) last → length more ≤ 4 → last ≤ next + most_vertices + 1 → GoesOn g right y p rules all next last
 goes_on g right y p rules more all next last e u few low = record {
   underway = subst (λ rs. IsUnderway g right y p rs last) (sym e) u;
   few = omega (arith, ap length e, length-append rules more);

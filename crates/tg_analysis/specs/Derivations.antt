@@ -1,5 +1,5 @@
 -- Lists of rules that carry a right from a vertex to another.
-use Rattle.std.specs.Prelude.{◌≡◌, ℕ, ◌+◌, ◌^◌, ◌*◌, ◌<◌, ◌≤◌, IsTrue, if◌then◌else◌, List, [], ◌∷◌, ◌++◌, length, Option, Some, None}
+use Rattle.std.specs.Prelude.{◌≡◌, ℕ, ◌+◌, ◌^◌, ◌*◌, ◌-◌, ◌<◌, ◌≤◌, IsTrue, if◌then◌else◌, List, [], ◌∷◌, ◌++◌, length, Option, Some, None}
 use Rattle.std.specs.List.{list_any}
 use Rattle.tg_graph.specs.declared.right_sets.Right.{Right}
 use Rattle.tg_graph.specs.declared.right_sets.Right.TheVariants.{T, G}
@@ -8,6 +8,7 @@ use Rattle.tg_graph.specs.declared.rules.Rule.{Rule}
 use Rattle.tg_graph.specs.declared.rules.Rule.TheVariants.{Take, Grant, Create}
 use Rattle.tg_graph.specs.Names.{helper_name}
 use Rattle.tg_graph.specs.Sets.{bit_of}
+use Rattle.tg_graph.specs.Limits.{most_vertices}
 use Rattle.tg_graph.specs.Graphs.{Name, same_name, ProtectionGraph}
 use Rattle.tg_graph.specs.RuleLists.{AllAccepted, after_all}
 use Rattle.tg_analysis.specs.Sharing.{IsChain, NoRepeat}
@@ -55,7 +56,7 @@ pub record IsUnderway (g : ProtectionGraph) (right : Right) (y q : Name) (rules 
 pub record GoesOn (g : ProtectionGraph) (right : Right) (y p : Name) (old new : List Rule) (next last : ℕ) : Type 0 where
   pub underway : IsUnderway g right y p new last
   pub few : length new ≤ length old + 4
-  pub low : last ≤ next + 1025
+  pub low : last ≤ next + most_vertices + 1
 
 -- the last of the vertices
 abbrev pub end_of : Name → List Name → Name
@@ -77,3 +78,7 @@ pub record IsDerivation (g : ProtectionGraph) (right : Right) (x y : Name) (rule
   pub apart : NoRepeat (x ∷ chain)
   pub few : length rules ≤ 4 * length chain
   pub none : IsTrue (g.holds x right y) → rules ≡ []
+
+-- four rules for each vertex but one are enough for a derivation
+abbrev pub DerivationsAreShort : Type 0
+DerivationsAreShort = (g : ProtectionGraph) (right : Right) (x y : Name) (rules : List Rule) → IsDerivation g right x y rules → length rules ≤ 4 * (length g.vertices - 1)

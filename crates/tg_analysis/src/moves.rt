@@ -1,6 +1,7 @@
 //! The rules that carry a right over one link.
 ghost use Rattle.std.specs.Prelude.{◌≡◌, ℕ, ◌+◌, ◌^◌, ◌<◌, ◌≤◌, true, false, IsTrue, IfOk, length};
 ghost use Rattle.tg_graph.specs.Names.{helper_name};
+ghost use Rattle.tg_graph.specs.Limits.{most_vertices};
 ghost use Rattle.tg_graph.specs.Graphs.{has_vertex, WellFormed};
 ghost use Rattle.tg_graph.specs.GraphOf.{graph_of};
 ghost use Rattle.tg_analysis.specs.Sharing.{linked};
@@ -128,7 +129,7 @@ pub fn add_move(
     requires underway { IsUnderway (graph_of graph.now) right y q rules.old.items next }
     requires linked { IsTrue (linked (graph_of graph.now) p q) }
     requires known { IsTrue (has_vertex (graph_of graph.now) y) }
-    requires small { length graph.now ≤ 1024 }
+    requires small { length graph.now ≤ most_vertices }
     requires low { next ≤ 2 ^ 31 }
     ensures { IfOk result (λ last.
         GoesOn (graph_of graph.now) right y p rules.old.items rules.new.items next last) }

@@ -1,4 +1,5 @@
-use Rattle.std.proofs.Common.{◌≤◌, ◌*◌, length, drop}
+use Rattle.std.proofs.Common.{◌≤◌, ◌*◌, ◌+◌, length, drop}
+use Rattle.tg_graph.specs.Limits.{most_vertices}
 use Rattle.tg_graph.specs.GraphOf.{graph_of}
 use Rattle.tg_analysis.specs.Sharing.{IsChain}
 use Rattle.tg_analysis.specs.Derivations.{IsUnderway, end_of}
@@ -10,5 +11,5 @@ invariant-loop-p l =
       underway : IsUnderway (graph_of l.graph) l.right l.y l.q l.rules.items l.next;
       joined : IsChain (graph_of l.graph) l.q (drop l.p-index l.links) (end_of l.fn.holder l.links);
       few : length l.rules.items ≤ 4 * l.p-index;
-      low : l.next ≤ 1025 * l.p-index;
+      low : l.next ≤ (most_vertices + 1) * l.p-index;
     }
