@@ -30,7 +30,7 @@ fn carry(
     requires held { IsTrue ((graph_of graph.now).holds holder right y) }
     requires joined { IsChain (graph_of graph.now) holder links.now (end_of holder links.now) }
     ensures { IfOk result (λ rules.
-        IsCarried (graph_of graph.now) right y (end_of holder links.now) links.now rules.items) }
+        IsCarried (graph_of graph.now) right y holder links.now rules.items) }
 {
     let mut rules = Vec::new(alloc);
     let mut next = 0;

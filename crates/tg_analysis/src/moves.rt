@@ -5,7 +5,8 @@ ghost use Rattle.tg_graph.specs.Limits.{most_vertices};
 ghost use Rattle.tg_graph.specs.Graphs.{has_vertex, WellFormed};
 ghost use Rattle.tg_graph.specs.GraphOf.{graph_of};
 ghost use Rattle.tg_analysis.specs.Sharing.{linked};
-ghost use Rattle.tg_analysis.specs.Derivations.{only, take_and_grant, direct_rule, rule_for_helper, helper_rules, IsUnderway, GoesOn};
+ghost use Rattle.tg_analysis.specs.Moves.{only, take_and_grant};
+ghost use Rattle.tg_analysis.specs.Derivations.{direct_rule, rule_for_helper, helper_rules, IsUnderway, GoesOn};
 
 use std::alloc::AllocError;
 use tg_graph::{Graph, Name, Right, Rights, Rule};
@@ -132,7 +133,7 @@ pub fn add_move(
     requires small { length graph.now ≤ most_vertices }
     requires low { next ≤ 2 ^ 31 }
     ensures { IfOk result (λ last.
-        GoesOn (graph_of graph.now) right y p rules.old.items rules.new.items next last) }
+        GoesOn (graph_of graph.now) right y p q rules.old.items rules.new.items next last) }
 {
     match direct_rule(graph, right, y, p, q) {
         Some(rule) => {
