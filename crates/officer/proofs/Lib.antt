@@ -6,3 +6,4 @@ pub mod ActLemmas
 pub mod ScriptLemmas
 pub mod DerivedTexts
 pub mod DealingLemmas
+pub mod OneReport
