@@ -5,3 +5,5 @@ pub mod ReportLaws
 pub mod ActLemmas
 pub mod ScriptLemmas
 pub mod DerivedTexts
+pub mod DealingLemmas
+pub mod OneReport

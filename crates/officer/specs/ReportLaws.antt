@@ -1,5 +1,5 @@
 -- What the reports' definitions come to.
-use Rattle.std.specs.Prelude.{◌≡◌, ◌≤◌, IsTrue, ℕ, List, length, map, take, slice_get, Some, MatchOption, Ok}
+use Rattle.std.specs.Prelude.{◌≡◌, ◌≤◌, ◌⊎◌, IsTrue, ℕ, List, length, map, take, slice_get, Some, MatchOption, Result, Ok, Err}
 use Rattle.tg_graph.specs.declared.rules.Refusal.{Refusal}
 use Rattle.tg_graph.specs.declared.rules.Rule.{Rule}
 use Rattle.tg_graph.specs.Graphs.{ProtectionGraph, WellFormed}
@@ -9,8 +9,9 @@ use Rattle.tg_text.specs.declared.rule_text.RuleLine.{RuleLine}
 use Rattle.tg_text.specs.RuleText.{rules_text}
 use Rattle.tg_text.specs.Canonical.{canonical_text}
 use Rattle.tg_analysis.specs.Derivations.{IsDerivation}
-use Rattle.officer.specs.Readings.{Question}
-use Rattle.officer.specs.Reports.{Played, played, check_report, derivation_report}
+use Rattle.officer.specs.Calls.{CommandWords, Case, Check, Apply, Islands, Share, Derive, Run}
+use Rattle.officer.specs.Readings.{Question, ReportText, question_in}
+use Rattle.officer.specs.Reports.{Played, played, check_report, derivation_report, IsReport}
 
 abbrev pub rules_of : List RuleLine → List Rule
 rules_of lines = map (λ line. line.rule) lines
@@ -40,3 +41,22 @@ DerivationsGiveTheRight = (q : Question) (rules : List Rule) → length rules �
 -- the canonical text of a graph that a text may hold is checked as it stands
 abbrev pub CanonicalTextsStay : Type 0
 CanonicalTextsStay = (g : ProtectionGraph) → WellFormed g → length g.vertices ≤ 1024 → check_report (canonical_text g) ≡ Ok (record { bytes = canonical_text g; status = 0 })
+
+-- rules were found for a question that was asked, and the report has them
+abbrev pub FindsRules : Result Question ReportText → ReportText → Type 0
+FindsRules (Ok q) report = (rules : List Rule) × IsDerivation q.graph q.right q.x q.y rules × (report ≡ derivation_report rules)
+FindsRules (Err fault) report = ⊥
+
+-- the report is one of rules that were found
+abbrev pub GivesRules : CommandWords → List ℕ → ReportText → Type 0
+GivesRules (Derive right x y) first report = FindsRules (question_in first right x y) report
+GivesRules Case first report = ⊥
+GivesRules Check first report = ⊥
+GivesRules Apply first report = ⊥
+GivesRules Islands first report = ⊥
+GivesRules (Share right x y) first report = ⊥
+GivesRules Run first report = ⊥
+
+-- a command has one report for its texts, but that other rules may be found; what a script leads to is not said here
+abbrev pub ThereIsOneReport : Type 0
+ThereIsOneReport = (command : CommandWords) (first second : List ℕ) (a b : ReportText) → (command ≡ Run → ⊥) → IsReport command first second a → IsReport command first second b → (a ≡ b) ⊎ (GivesRules command first a × GivesRules command first b)

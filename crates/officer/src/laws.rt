@@ -1,5 +1,5 @@
 //! Laws of the reports. Each function does nothing: its contract is the law.
-ghost use Rattle.officer.specs.ReportLaws.{CanonicalTextsStay, DerivationsGiveTheRight, RulesStopAtRefusal};
+ghost use Rattle.officer.specs.ReportLaws.{CanonicalTextsStay, DerivationsGiveTheRight, RulesStopAtRefusal, ThereIsOneReport};
 
 /// A report of rules shows those up to the first that is refused, and the graph that they lead to.
 pub fn rules_stop_at_refusal()
@@ -15,4 +15,9 @@ pub fn derivations_give_the_right()
 /// What is printed of a graph of at most 1,024 vertices by `check` is printed again as it stands.
 pub fn canonical_texts_stay()
     ensures { CanonicalTextsStay }
+{}
+
+/// A command has one report for its texts, but that other rules may be found that give the right.
+pub fn there_is_one_report()
+    ensures { ThereIsOneReport }
 {}

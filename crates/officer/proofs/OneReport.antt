@@ -1,0 +1,82 @@
+-- A command has one report for its texts.
+use Rattle.std.proofs.Common.{◌≡◌, ◌⊎◌, ℕ, Bool, true, false, cond, ◌||◌, List, [], ◌∷◌, ◌++◌, refl, sym, ◌∙◌, ap, inl, inr, filter}
+use Rattle.std.specs.Prelude.{Result, Ok, Err}
+use Rattle.std.specs.List.{flat_map}
+use Rattle.tg_graph.specs.Graphs.{Name, ProtectionGraph, has_vertex}
+use Rattle.tg_text.specs.Canonical.{in_name_order}
+use Rattle.tg_text.proofs.NameOrder.{among, among-in_order, same_name-refl}
+use Rattle.officer.specs.Calls.{CommandWords, Case, Check, Apply, Islands, Share, Derive, Run}
+use Rattle.officer.specs.Readings.{ReportText, Question, graph_in, question_in}
+use Rattle.officer.specs.Reports.{IsReport, IsFor, Is, IsAnswer, IsDerived, TellsIslands, AreIslandLines, island_line, islands_text, check_report, apply_report, graph_part, rules_part}
+use Rattle.officer.specs.ReportLaws.{FindsRules, GivesRules, ThereIsOneReport}
+
+-- ---- tests that agree
+same_truth : (b c : Bool) → (b ≡ true → c ≡ true) → (c ≡ true → b ≡ true) → b ≡ c
+same_truth true c h k = sym (h refl)
+same_truth false true h k = k refl
+same_truth false false h k = refl
+
+either_true : (a b : Bool) → b ≡ true → (a || b) ≡ true
+either_true true b h = refl
+either_true false b h = h
+
+first_true : (a b : Bool) → a ≡ true → (a || b) ≡ true
+first_true a b h = ap (λ t. t || b) h
+
+filter_same : (p q : Name → Bool) (ws : List Name) → ((w : Name) → among w ws ≡ true → p w ≡ q w) → filter p ws ≡ filter q ws
+filter_same p q [] h = refl
+filter_same p q (w ∷ ws) h =
+    ap (λ b. cond b (w ∷ filter p ws) (filter p ws)) (h w (first_true _ _ (same_name-refl w)))
+    ∙ ap (λ (t : List Name). cond (q w) (w ∷ t) t) (filter_same p q ws (λ v k. h v (either_true _ _ k)))
+
+lines_same : (p q : Name → Name → Bool) (all names : List Name) → ((v w : Name) → among v names ≡ true → among w all ≡ true → p v w ≡ q v w) → flat_map (λ v. island_line v (filter (p v) all)) names ≡ flat_map (λ v. island_line v (filter (q v) all)) names
+lines_same p q all [] h = refl
+lines_same p q all (v ∷ vs) h =
+    ap (λ (ws : List Name). island_line v ws ++ flat_map (λ u. island_line u (filter (p u) all)) vs) (filter_same (p v) (q v) all (λ w k. h v w (first_true _ _ (same_name-refl v)) k))
+    ∙ ap (λ (t : List ℕ). island_line v (filter (q v) all) ++ t) (lines_same p q all vs (λ u w k l. h u w (either_true _ _ k) l))
+
+tests_agree : (g : ProtectionGraph) (p q : Name → Name → Bool) → TellsIslands g p → TellsIslands g q → (v w : Name) → has_vertex g v ≡ true → has_vertex g w ≡ true → p v w ≡ q v w
+tests_agree g p q hp hq v w kv kw =
+    same_truth (p v w) (q v w) (λ t. (hq v w kv kw).1 ((hp v w kv kw).0 t)) (λ t. (hp v w kv kw).1 ((hq v w kv kw).0 t))
+
+islands_one : (g : ProtectionGraph) (a b : ReportText) → AreIslandLines g a → AreIslandLines g b → a ≡ b
+islands_one g a b h k =
+    let vs = in_name_order g.vertices in
+    let same : islands_text h.0 vs ≡ islands_text k.0 vs =
+        lines_same h.0 k.0 vs vs (λ v w i j. tests_agree g h.0 k.0 h.1 k.1 v w (sym (among-in_order v g.vertices) ∙ i) (sym (among-in_order w g.vertices) ∙ j)) in
+    let F : List ℕ → ReportText = λ bytes. record { bytes = bytes; status = 0 } in
+    h.2 ∙ (ap F same ∙ sym k.2)
+
+-- ---- answers
+answer_one : (q : Question) (a b : ReportText) → IsAnswer q a → IsAnswer q b → a ≡ b
+answer_one q a b (inl h) (inl k) = h.1 ∙ sym k.1
+answer_one q a b (inl h) (inr k) = absurd (k.0 h.0)
+answer_one q a b (inr h) (inl k) = absurd (h.0 k.0)
+answer_one q a b (inr h) (inr k) = h.1 ∙ sym k.1
+
+derived_one : (q : Question) (a b : ReportText) → IsDerived q a → IsDerived q b → (a ≡ b) ⊎ (FindsRules (Ok q) a × FindsRules (Ok q) b)
+derived_one q a b (inl h) (inl k) = inr (h, k)
+derived_one q a b (inl h) (inr k) = absurd (k.0 (h.0, h.1.accepted, h.1.gives))
+derived_one q a b (inr h) (inl k) = absurd (h.0 (k.0, k.1.accepted, k.1.gives))
+derived_one q a b (inr h) (inr k) = inl (h.1 ∙ sym k.1)
+
+-- ---- reports
+for_one : {A : Type 0} (P : A → ReportText → Type 0) (x : Result A ReportText) (a b : ReportText) → ((y : A) → P y a → P y b → a ≡ b) → IsFor P x a → IsFor P x b → a ≡ b
+for_one P (Ok y) a b h i j = h y i j
+for_one P (Err fault) a b h i j = i ∙ sym j
+
+is_one : (x : Result ReportText ReportText) (a b : ReportText) → IsFor Is x a → IsFor Is x b → a ≡ b
+is_one x a b = for_one Is x a b (λ y i j. i ∙ sym j)
+
+for_derived : (x : Result Question ReportText) (a b : ReportText) → IsFor IsDerived x a → IsFor IsDerived x b → (a ≡ b) ⊎ (FindsRules x a × FindsRules x b)
+for_derived (Ok q) a b i j = derived_one q a b i j
+for_derived (Err fault) a b i j = inl (i ∙ sym j)
+
+pub one_report : ThereIsOneReport
+one_report Case first second a b plain i j = inl (is_one (apply_report (graph_part first) (rules_part first)) a b i j)
+one_report Check first second a b plain i j = inl (is_one (check_report first) a b i j)
+one_report Apply first second a b plain i j = inl (is_one (apply_report first second) a b i j)
+one_report Islands first second a b plain i j = inl (for_one AreIslandLines (graph_in first) a b (λ g h k. islands_one g a b h k) i j)
+one_report (Share right x y) first second a b plain i j = inl (for_one IsAnswer (question_in first right x y) a b (λ q h k. answer_one q a b h k) i j)
+one_report (Derive right x y) first second a b plain i j = for_derived (question_in first right x y) a b i j
+one_report Run first second a b plain i j = absurd (plain refl)
