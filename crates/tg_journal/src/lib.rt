@@ -8,6 +8,7 @@
 mod answers;
 mod entry;
 mod journal;
+mod limits;
 mod notes;
 mod pass;
 mod raw_note;
