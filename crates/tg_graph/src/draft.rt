@@ -122,9 +122,11 @@ impl Draft {
         ensures value { result ≡ ([], []) }
         ensures fits { (base : Entries) → Fits base result }
     {
+        let rows = IndexMap::new(alloc);
+        let created = Vec::new(alloc);
         Draft {
-            rows: IndexMap::new(alloc),
-            created: Vec::new(alloc),
+            rows,
+            created,
             alloc,
         }
     }
