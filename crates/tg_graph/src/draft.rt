@@ -122,9 +122,11 @@ impl Draft {
         ensures value { result ≡ ([], []) }
         ensures fits { (base : Entries) → Fits base result }
     {
+        let rows = IndexMap::new(alloc);
+        let created = Vec::new(alloc);
         Draft {
-            rows: IndexMap::new(alloc),
-            created: Vec::new(alloc),
+            rows,
+            created,
             alloc,
         }
     }
@@ -232,7 +234,7 @@ impl Draft {
         ensures fits { Fits base.now self.new }
         ensures kept { OnErr result (self.new ≡ self.old) }
     {
-        checks::check(&Laid { base, draft: self }, rule)?;
+        self.check(base, rule)?;
         match *rule {
             Rule::Take { x, z, rights, .. } => self.give(base, x, z, rights)?,
             Rule::Grant { y, z, rights, .. } => self.give(base, y, z, rights)?,
@@ -306,8 +308,8 @@ impl Ready {
             alloc,
             draft,
         } = self;
-        let Draft { rows: changes, .. } = draft;
-        row_maps::put_all(&mut rows, changes);
+        let Draft { rows: changed, .. } = draft;
+        row_maps::put_all(&mut rows, changed);
         Graph { rows, alloc }
     }
 
@@ -339,8 +341,8 @@ impl Graph {
     {
         match self.rows.reserve(draft.created()) {
             Ok(()) => {
-                let Draft { rows: changes, .. } = draft;
-                row_maps::put_all(&mut self.rows, changes);
+                let Draft { rows, .. } = draft;
+                row_maps::put_all(&mut self.rows, rows);
                 Ok(())
             }
             Err(AllocError) => Err(draft),

@@ -67,28 +67,6 @@ fn widen(
     }
 }
 
-// Adds an edge if there is none, and says whether there was none.
-fn link(
-    rows: &mut IndexMap<Name, SharedRow>,
-    x: Name,
-    y: Name,
-    rights: Rights,
-) -> Result<bool, AllocError>
-    requires label { IsLabel rights }
-    requires known { is_known rows.old.entries x ≡ true }
-    ensures said { IfOk result (λ added. added ≡ not (has_edge rows.old.entries x y)) }
-    ensures linked { IfOk result (λ added. MatchBool added
-        (ChangesRow (λ a b. Adds a b y rights) rows.old.entries rows.new.entries x)
-        (rows.new.entries ≡ rows.old.entries)) }
-    ensures absent { OnErr result (has_edge rows.old.entries x y ≡ false) }
-    ensures err { OnErr result (rows.new.entries ≡ rows.old.entries) }
-{
-    match rows.get_mut(&x) {
-        Some(row) => row.add_new(y, rights),
-        None => Ok(false),
-    }
-}
-
 /// Why a vertex was not added.
 #[derive(Clone, Copy, PartialEq, Eq, Debug)]
 pub enum VertexFault {
@@ -231,7 +209,10 @@ impl Graph {
         ensures absent { OnErr result (is_empty_set (label_between (graph_of self.old) x y) ≡ true) }
         ensures err { OnErr result (self.new ≡ self.old) }
     {
-        let added = link(&mut self.rows, x, y, rights)?;
+        let Some(row) = self.rows.get_mut(&x) else {
+            return Ok(false);
+        };
+        let added = row.add_new(y, rights)?;
         Ok(added)
     }
 
@@ -288,7 +269,10 @@ impl Graph {
             (graph_of self.new ≡ without_rights (graph_of self.old) x y rights) }
         ensures err { OnErr result (self.new ≡ self.old) }
     {
-        narrow(&mut self.rows, x, y, rights)?;
+        let Some(row) = self.rows.get_mut(&x) else {
+            return Ok(());
+        };
+        row.take(y, rights)?;
         Ok(())
     }
 
@@ -409,24 +393,5 @@ impl Graph {
             }
         }
         Ok(())
-    }
-}
-
-// Takes rights out of the label of an edge.
-fn narrow(
-    rows: &mut IndexMap<Name, SharedRow>,
-    x: Name,
-    y: Name,
-    rights: Rights,
-) -> Result<(), AllocError>
-    requires named { IsNamed rights }
-    requires known { is_known rows.old.entries x ≡ true }
-    ensures narrowed { OnOk result
-        (ChangesRow (λ a b. TakesAway a b y rights) rows.old.entries rows.new.entries x) }
-    ensures err { OnErr result (rows.new.entries ≡ rows.old.entries) }
-{
-    match rows.get_mut(&x) {
-        Some(row) => row.take(y, rights),
-        None => Ok(()),
     }
 }
