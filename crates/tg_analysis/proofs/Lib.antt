@@ -26,4 +26,4 @@ pub mod Places
 pub mod Linked
 pub mod FloodSteps
 pub mod Numbered
-pub mod Holders
+pub mod Spreads

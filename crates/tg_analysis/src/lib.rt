@@ -17,6 +17,7 @@ mod met;
 mod moves;
 mod numbering;
 mod questions;
+mod spreading;
 #[cfg(test)]
 mod test_graphs;
 
