@@ -43,7 +43,7 @@ islands_one : (g : ProtectionGraph) (a b : ReportText) → AreIslandLines g a �
 islands_one g a b h k =
     let vs = in_name_order g.vertices in
     let same : islands_text h.0 vs ≡ islands_text k.0 vs =
-        lines_same h.0 k.0 vs vs (λ v w i j. tests_agree g h.0 k.0 h.1 k.1 v w (sym (among-in_order v g.vertices) ∙ i) (sym (among-in_order w g.vertices) ∙ j)) in
+    lines_same h.0 k.0 vs vs (λ v w i j. tests_agree g h.0 k.0 h.1 k.1 v w (sym (among-in_order v g.vertices) ∙ i) (sym (among-in_order w g.vertices) ∙ j)) in
     let F : List ℕ → ReportText = λ bytes. record { bytes = bytes; status = 0 } in
     h.2 ∙ (ap F same ∙ sym k.2)
 

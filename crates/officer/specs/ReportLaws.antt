@@ -3,6 +3,7 @@ use Rattle.std.specs.Prelude.{◌≡◌, ◌≤◌, ◌⊎◌, IsTrue, ℕ, List
 use Rattle.tg_graph.specs.declared.rules.Refusal.{Refusal}
 use Rattle.tg_graph.specs.declared.rules.Rule.{Rule}
 use Rattle.tg_graph.specs.Graphs.{ProtectionGraph, WellFormed}
+use Rattle.tg_graph.specs.Limits.{most_vertices}
 use Rattle.tg_graph.specs.Rules.{refusal_of}
 use Rattle.tg_graph.specs.Additions.{Leads}
 use Rattle.tg_text.specs.declared.rule_text.RuleLine.{RuleLine}
@@ -34,13 +35,13 @@ pub record GivesTheRight (q : Question) (rules : List Rule) : Type 0 where
   pub status : (played q.graph lines).status ≡ 0
   pub gives : IsTrue ((played q.graph lines).end.holds q.x q.right q.y)
 
--- a derivation that is printed can be applied, if its rules are no more than a text may have
+-- a derivation that is printed can be applied, on a graph that a text may hold
 abbrev pub DerivationsGiveTheRight : Type 0
-DerivationsGiveTheRight = (q : Question) (rules : List Rule) → length rules ≤ 65536 → IsDerivation q.graph q.right q.x q.y rules → GivesTheRight q rules
+DerivationsGiveTheRight = (q : Question) (rules : List Rule) → length q.graph.vertices ≤ most_vertices → IsDerivation q.graph q.right q.x q.y rules → GivesTheRight q rules
 
 -- the canonical text of a graph that a text may hold is checked as it stands
 abbrev pub CanonicalTextsStay : Type 0
-CanonicalTextsStay = (g : ProtectionGraph) → WellFormed g → length g.vertices ≤ 1024 → check_report (canonical_text g) ≡ Ok (record { bytes = canonical_text g; status = 0 })
+CanonicalTextsStay = (g : ProtectionGraph) → WellFormed g → length g.vertices ≤ most_vertices → check_report (canonical_text g) ≡ Ok (record { bytes = canonical_text g; status = 0 })
 
 -- rules were found for a question that was asked, and the report has them
 abbrev pub FindsRules : Result Question ReportText → ReportText → Type 0

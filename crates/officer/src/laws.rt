@@ -6,13 +6,13 @@ pub fn rules_stop_at_refusal()
     ensures { RulesStopAtRefusal }
 {}
 
-/// The report of a derivation is a text of rules: carried out on the same graph, none is refused, and they give the
-/// right that was asked for.
+/// The report of a derivation on a graph of at most `MOST_VERTICES` is a text of rules: carried out on the same graph,
+/// none is refused, and they give the right that was asked for.
 pub fn derivations_give_the_right()
     ensures { DerivationsGiveTheRight }
 {}
 
-/// What is printed of a graph of at most 1,024 vertices by `check` is printed again as it stands.
+/// What is printed of a graph of at most `MOST_VERTICES` by `check` is printed again as it stands.
 pub fn canonical_texts_stay()
     ensures { CanonicalTextsStay }
 {}
