@@ -11,19 +11,19 @@ use Rattle.officer.specs.Reports.{IsReport, IsFor, Is, IsAnswer, IsDerived, Tell
 use Rattle.officer.specs.ReportLaws.{FindsRules, GivesRules, ThereIsOneReport}
 
 -- ---- tests that agree
-same_truth : (b c : Bool) → (b ≡ true → c ≡ true) → (c ≡ true → b ≡ true) → b ≡ c
+pub same_truth : (b c : Bool) → (b ≡ true → c ≡ true) → (c ≡ true → b ≡ true) → b ≡ c
 same_truth true c h k = sym (h refl)
 same_truth false true h k = k refl
 same_truth false false h k = refl
 
-either_true : (a b : Bool) → b ≡ true → (a || b) ≡ true
+pub either_true : (a b : Bool) → b ≡ true → (a || b) ≡ true
 either_true true b h = refl
 either_true false b h = h
 
 first_true : (a b : Bool) → a ≡ true → (a || b) ≡ true
 first_true a b h = ap (λ t. t || b) h
 
-filter_same : (p q : Name → Bool) (ws : List Name) → ((w : Name) → among w ws ≡ true → p w ≡ q w) → filter p ws ≡ filter q ws
+pub filter_same : (p q : Name → Bool) (ws : List Name) → ((w : Name) → among w ws ≡ true → p w ≡ q w) → filter p ws ≡ filter q ws
 filter_same p q [] h = refl
 filter_same p q (w ∷ ws) h =
     ap (λ b. cond b (w ∷ filter p ws) (filter p ws)) (h w (first_true _ _ (same_name-refl w)))

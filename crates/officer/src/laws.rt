@@ -1,5 +1,5 @@
 //! Laws of the reports. Each function does nothing: its contract is the law.
-ghost use Rattle.officer.specs.ReportLaws.{CanonicalTextsStay, DerivationsGiveTheRight, RulesStopAtRefusal, ThereIsOneReport};
+ghost use Rattle.officer.specs.ReportLaws.{CanonicalTextsStay, DerivationsGiveTheRight, IslandsAreLines, RulesStopAtRefusal, ThereIsOneReport};
 
 /// A report of rules shows those up to the first that is refused, and the graph that they lead to.
 pub fn rules_stop_at_refusal()
@@ -20,4 +20,9 @@ pub fn canonical_texts_stay()
 /// A command has one report for its texts, but that other rules may be found that give the right.
 pub fn there_is_one_report()
     ensures { ThereIsOneReport }
+{}
+
+/// What is printed for the islands of a graph is one line for each, and each vertex stands on one of them, once.
+pub fn islands_are_lines()
+    ensures { IslandsAreLines }
 {}
