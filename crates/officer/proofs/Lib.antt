@@ -7,3 +7,4 @@ pub mod ScriptLemmas
 pub mod DerivedTexts
 pub mod DealingLemmas
 pub mod OneReport
+pub mod IslandLines

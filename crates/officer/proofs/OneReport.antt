@@ -11,19 +11,19 @@ use Rattle.officer.specs.Reports.{IsReport, IsFor, Is, IsAnswer, IsDerived, Tell
 use Rattle.officer.specs.ReportLaws.{FindsRules, GivesRules, ThereIsOneReport}
 
 -- ---- tests that agree
-same_truth : (b c : Bool) → (b ≡ true → c ≡ true) → (c ≡ true → b ≡ true) → b ≡ c
+pub same_truth : (b c : Bool) → (b ≡ true → c ≡ true) → (c ≡ true → b ≡ true) → b ≡ c
 same_truth true c h k = sym (h refl)
 same_truth false true h k = k refl
 same_truth false false h k = refl
 
-either_true : (a b : Bool) → b ≡ true → (a || b) ≡ true
+pub either_true : (a b : Bool) → b ≡ true → (a || b) ≡ true
 either_true true b h = refl
 either_true false b h = h
 
 first_true : (a b : Bool) → a ≡ true → (a || b) ≡ true
 first_true a b h = ap (λ t. t || b) h
 
-filter_same : (p q : Name → Bool) (ws : List Name) → ((w : Name) → among w ws ≡ true → p w ≡ q w) → filter p ws ≡ filter q ws
+pub filter_same : (p q : Name → Bool) (ws : List Name) → ((w : Name) → among w ws ≡ true → p w ≡ q w) → filter p ws ≡ filter q ws
 filter_same p q [] h = refl
 filter_same p q (w ∷ ws) h =
     ap (λ b. cond b (w ∷ filter p ws) (filter p ws)) (h w (first_true _ _ (same_name-refl w)))
@@ -43,7 +43,7 @@ islands_one : (g : ProtectionGraph) (a b : ReportText) → AreIslandLines g a �
 islands_one g a b h k =
     let vs = in_name_order g.vertices in
     let same : islands_text h.0 vs ≡ islands_text k.0 vs =
-        lines_same h.0 k.0 vs vs (λ v w i j. tests_agree g h.0 k.0 h.1 k.1 v w (sym (among-in_order v g.vertices) ∙ i) (sym (among-in_order w g.vertices) ∙ j)) in
+    lines_same h.0 k.0 vs vs (λ v w i j. tests_agree g h.0 k.0 h.1 k.1 v w (sym (among-in_order v g.vertices) ∙ i) (sym (among-in_order w g.vertices) ∙ j)) in
     let F : List ℕ → ReportText = λ bytes. record { bytes = bytes; status = 0 } in
     h.2 ∙ (ap F same ∙ sym k.2)
 
