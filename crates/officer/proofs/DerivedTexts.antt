@@ -17,7 +17,7 @@ use Rattle.tg_text.specs.RoundTrips.{lines_of_rules, on_lines}
 use Rattle.tg_text.proofs.PlainWords.{IsPlainWord, word_from_test, name_word}
 use Rattle.tg_text.proofs.RuleBack.{length-more}
 use Rattle.tg_text.proofs.RulesBack.{rules-read, skipped-line}
-use Rattle.tg_analysis.proofs.Short.{short_enough}
+use Rattle.tg_analysis.proofs.Derived.{derivations_are_short}
 use Rattle.officer.specs.Reports.{Played, played_first, played, derivation_report}
 use Rattle.officer.specs.ReportLaws.{rules_of, DerivationsGiveTheRight}
 
@@ -66,7 +66,7 @@ text_read rules a l =
 
 pub derivations_give : DerivationsGiveTheRight
 derivations_give q rules small derived =
-    let few : length rules ≤ 4 * most_vertices = omega (arith, small, derived.few, short_enough q.graph q.x derived.chain derived.holder derived.joined derived.apart) in
+    let few : length rules ≤ 4 * most_vertices = omega (arith, small, derivations_are_short q.graph q.right q.x q.y rules derived) in
     let whole = all_played q.graph 2 rules derived.accepted in
     record {
       lines = on_lines 2 rules;
