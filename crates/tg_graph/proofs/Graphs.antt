@@ -1,5 +1,5 @@
 -- What a change of one row, or one more vertex, does to the graph.
-use Rattle.std.proofs.Common.{◌≡◌, ℕ, Bool, true, false, cond, List, [], ◌∷◌, ◌++◌, Option, Some, None, refl, sym, ap, subst, ◌∙◌, bytes_eq, IfSome, IsSome, ◌&&◌, ◌||◌, not, unwrap_or, is_some, true≢false, MatchBool}
+use Rattle.std.proofs.Common.{◌≡◌, ℕ, Bool, true, false, cond, List, [], ◌∷◌, ◌++◌, Option, Some, None, refl, sym, ap, subst, ◌∙◌, bytes_eq, IfSome, ◌&&◌, ◌||◌, not, unwrap_or, is_some, true≢false, MatchBool}
 use Rattle.std.specs.Option.{option_map_or}
 use Rattle.std.proofs.Math.Bool.{or-false, or-true, and-true}
 use Rattle.std.specs.List.{list_any}
@@ -269,13 +269,6 @@ module _ (old new : Entries) (x y : List ℕ) (s : Rights) (c : AltersRow (λ a 
     rows = rows-changed old new x c g.rows;
     names = names-changed old new x c g.names;
   }
-
-pub none_from_unknown : (es : Entries) (n : List ℕ) → is_known es n ≡ false → lookup (bytes_eq n) es ≡ None
-none_from_unknown es n e = by (lookup (bytes_eq n) es) (is_some-lookup (bytes_eq n) es ∙ e)
-  where
-    by : (o : Option Edges) → is_some o ≡ false → o ≡ None
-    by None e = refl
-    by (Some row) e = absurd (true≢false e)
 
 -- ---- what each graph has
 module _ (es : Entries) (g : IsGraph es) (u : List ℕ) (right : Right) (v : List ℕ) (h : (graph_of es).holds u right v ≡ true) where

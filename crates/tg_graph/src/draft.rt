@@ -1,7 +1,7 @@
 //! Changed rows and new vertices laid over a graph.
 ghost use Rattle.std.specs.Prelude.{◌≡◌, ◌+◌, ◌<◌, ◌≤◌, [], ◌∷◌, true, false, Some, IfOk, IfErr, OnOk, OnErr, bytes_eq, length};
 ghost use Rattle.std.specs.Map.{keys_of};
-ghost use Rattle.indexmap.specs.IndexMap.{spare, insert_entry, insert_all};
+ghost use Rattle.indexmap.specs.IndexMap.{spare, insert_all};
 ghost use Rattle.indexmap.specs.IndexSet.{insert_key, insert_all as insert_all_keys};
 ghost use Rattle.tg_graph.specs.Sets.{IsNamed};
 ghost use Rattle.tg_graph.specs.Rows.{Entries, is_known, IsGraph, Adds, TakesAway};

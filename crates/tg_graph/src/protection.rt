@@ -1,15 +1,14 @@
 //! Protection graphs.
-ghost use Rattle.std.specs.Prelude.{◌≡◌, ◌<◌, ◌++◌, ◌∷◌, [], Some, None, true, false, IfOk, OnOk, OnErr, bytes_eq, length, slice_get, position};
+ghost use Rattle.std.specs.Prelude.{◌≡◌, ◌<◌, [], Some, None, true, false, IfOk, OnOk, OnErr, bytes_eq, length, slice_get, position, MatchBool, if◌then◌else◌};
 ghost use Rattle.std.specs.Map.{keys_of, lookup};
-ghost use Rattle.indexmap.specs.IndexMap.{spare, insert_all};
+ghost use Rattle.indexmap.specs.IndexMap.{spare};
 ghost use Rattle.tg_graph.specs.Sets.{IsNamed};
-ghost use Rattle.tg_graph.specs.Rows.{label_of, is_known, has_edge, IsLabel, IsGraph, row_number, Adds, TakesAway, ChangesRow};
+ghost use Rattle.tg_graph.specs.Rows.{is_known, IsLabel, IsGraph, row_number, Adds, ChangesRow};
 ghost use Rattle.tg_graph.specs.Graphs.{has_vertex, WellFormed};
 ghost use Rattle.tg_graph.specs.GraphOf.{graph_of};
-ghost use Rattle.tg_graph.specs.Rules.{refusal_of, verdict, not_held, Applies, rights_of, with_rights, without_rights, with_vertex, after};
+ghost use Rattle.tg_graph.specs.Rules.{refusal_of, verdict, Applies, rights_of, with_rights, without_rights, with_vertex, after};
 ghost use Rattle.tg_graph.specs.Sets.{is_empty_set};
 ghost use Rattle.tg_graph.specs.Additions.{AddsVertex, AddsEdge, label_at, label_between, Runs, AreNamed};
-ghost use Rattle.std.specs.Prelude.{not, MatchBool, if◌then◌else◌};
 
 use crate::checks::{self, Rows};
 use crate::names::Name;
