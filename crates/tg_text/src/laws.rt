@@ -6,7 +6,7 @@ ghost use Rattle.tg_text.specs.GraphGrammar.{GraphTextsAreThose, GraphFaultsAreF
 ghost use Rattle.tg_text.specs.RuleGrammar.{RuleLinesAreThose, RulesTextsAreThose, RuleFaultsAreFirst};
 ghost use Rattle.tg_text.specs.ScriptGrammar.{ScriptTextsAreThose, ScriptFaultsAreFirst};
 ghost use Rattle.tg_text.specs.WordLaws.{LinesExactly, BlanksExactly, WordsExactly, NumberWordsExactly, NumbersAreDecimal};
-ghost use Rattle.tg_text.specs.FaultKinds.{GraphLineKinds, GraphTextKinds, OneRuleKinds, RuleLineKinds, RulesTextKinds, ScriptLineKinds, ScriptTextKinds, NoHeaderIsEndsEarly};
+ghost use Rattle.tg_text.specs.FaultKinds.{GraphLineKinds, GraphTextKinds, OneRuleKinds, RuleLineKinds, RulesTextKinds, ScriptLineKinds, ScriptTextKinds, NoHeaderIsEndsEarly, GraphHasTheseKinds, OneRuleHasTheseKinds, RulesHaveTheseKinds, ScriptHasTheseKinds};
 
 /// A text has a graph exactly where the grammar gives it that graph, and a fault names the
 /// first line to which the grammar gives none.
@@ -31,26 +31,30 @@ pub fn script_grammar()
     ensures faults { ScriptFaultsAreFirst }
 {}
 
-/// A line of a graph is refused exactly with the least kind whose condition holds in it, and the fault of a
-/// text has the least kind of its line.
+/// A line of a graph is refused exactly with the least kind whose condition holds in it, and a text exactly with
+/// its first faulty line and the least kind of that line.
 pub fn graph_faults_have_the_least_kind()
     ensures lines { GraphLineKinds }
     ensures texts { GraphTextKinds }
+    ensures kinds { GraphHasTheseKinds }
 {}
 
 /// A line that is to be one rule, and a line of rules, is refused exactly with the least kind whose condition
-/// holds in it, and the fault of a text has the least kind of its line.
+/// holds in it, and a text exactly with its first faulty line and the least kind of that line.
 pub fn rule_faults_have_the_least_kind()
     ensures one { OneRuleKinds }
+    ensures one_kinds { OneRuleHasTheseKinds }
     ensures lines { RuleLineKinds }
     ensures texts { RulesTextKinds }
+    ensures kinds { RulesHaveTheseKinds }
 {}
 
-/// A line of a script is refused exactly with the least kind whose condition holds in it, and the fault of a
-/// text has the least kind of its line, or comes of a text that ends early.
+/// A line of a script is refused exactly with the least kind whose condition holds in it, and a text exactly with
+/// its first faulty line and the least kind of that line, or where it ends early.
 pub fn script_faults_have_the_least_kind()
     ensures lines { ScriptLineKinds }
     ensures texts { ScriptTextKinds }
+    ensures kinds { ScriptHasTheseKinds }
 {}
 
 /// `NoHeader` comes exactly where the text of a script ends before both header lines, on the line behind the last.
