@@ -115,6 +115,10 @@ end_of es a place b h =
     ∙ ap (λ t. cond t (position (bytes_eq h.name) (keys_of es)) None) h.ties
     ∙ h.known
 
+-- there is no row past the last
+pub row_past : (es : Entries) (a : ℕ) → length es ≤ a → row_number es a ≡ []
+row_past es a past = ap (λ o. option_map_or (λ (edge : Name × Edges). edge.1) o []) (slice_get_past es a past)
+
 -- a place with a linking edge is one of the row
 pub place_within : (es : Entries) (a place b : ℕ) → linked_end es a place ≡ Some b → place < length (row_number es a)
 place_within es a place b e = let h = has_end es a place b e in slice_get_within (row_number es a) place (h.name, h.label) h.read
@@ -163,7 +167,7 @@ module _ (es : Entries) (ok : IsGraph es) where
     where
       by : (a < length (keys_of es)) ⊎ (length (keys_of es) ≤ a) → slice_get (row_number es a) place ≡ Some ((has_end es a place b e).name, (has_end es a place b e).label) → a < length (keys_of es)
       by (inl l) r = l
-      by (inr l) r = let none : row_number es a ≡ [] = ap (λ o. option_map_or (λ (edge : Name × Edges). edge.1) o []) (slice_get_past es a (omega (arith, length-keys_of es))) in let past = ap (λ row. slice_get row place) none in cc
+      by (inr l) r = let none = row_past es a (omega (arith, length-keys_of es)) in let past = ap (λ row. slice_get row place) none in cc
 
   pub end_within : (a place b : ℕ) → linked_end es a place ≡ Some b → b < length (keys_of es)
   end_within a place b e = let h = has_end es a place b e in (position-Some (bytes_eq h.name) (keys_of es) b h.name h.known).0

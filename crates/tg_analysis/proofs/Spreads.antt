@@ -9,6 +9,8 @@ use Rattle.std.proofs.lemmas.List.{get_or-replicate, length-replicate}
 use Rattle.std.proofs.Math.ListN.{get_or-eq_default}
 use Rattle.std.proofs.lemmas.Option.{slice_get_within, slice_get-get_or}
 use Rattle.std.proofs.lemmas.List.Folds.{sum_by-replicate}
+use Rattle.std.proofs.lemmas.Map.Entries.{length-keys_of}
+use Rattle.tg_graph.specs.declared.right_sets.Right.{Right}
 use Rattle.tg_graph.specs.Graphs.{Name, ProtectionGraph, has_vertex, WellFormed}
 use Rattle.tg_graph.specs.GraphOf.{graph_of}
 use Rattle.tg_graph.specs.Rows.{Entries, IsGraph, row_number}
@@ -18,10 +20,10 @@ use Rattle.tg_analysis.specs.declared.spreading.Spread.{Spread}
 use Rattle.tg_analysis.specs.Sharing.{linked, InOneIsland, HeldInIsland}
 use Rattle.tg_analysis.specs.Linked.{neighbours, is_near, linked_end, AddsNeighbour}
 use Rattle.tg_analysis.specs.Flooding.{number_in, number_at, work_left, IsOneOf, Meets, MeetsEnds}
-use Rattle.tg_analysis.specs.Spreading.{IsMet, HoldsAt, BeginsAt, Follows, FollowsOn, ReadsEdge, ReadsUpTo, ReadsMet, Reads, IsSpread, HasRead, IsAtRest, RunsOut}
-use Rattle.tg_analysis.proofs.Places.{position-at, place_of, place-known}
+use Rattle.tg_analysis.specs.Spreading.{IsMet, HasRight, HoldsAt, BeginsAt, Follows, FollowsOn, ReadsEdge, ReadsUpTo, ReadsMet, Reads, IsSpread, HasRead, IsAtRest, RunsOut}
+use Rattle.tg_analysis.proofs.Places.{position-at, place_of, place-known, holds-place, place-holds}
 use Rattle.tg_analysis.proofs.OneIsland.{linked_sym, island_refl, island_link, island_trans}
-use Rattle.tg_analysis.proofs.Linked.{edge-linked, linked-edge, row_there, end_within, place_within}
+use Rattle.tg_analysis.proofs.Linked.{edge-linked, linked-edge, row_past, row_there, end_within, place_within}
 use Rattle.tg_analysis.proofs.Floods.{flood_has_island}
 use Rattle.tg_analysis.proofs.FloodSteps.{some_kept, one_of-append, one_of-left, one_of-right, one_of-single, single-one_of, TakesLast}
 use Rattle.tg_analysis.proofs.Underway.{linked_ends}
@@ -56,6 +58,32 @@ number_within numbers a h = go (cases_lt a (length numbers))
     go : (a < length numbers) ⊎ (length numbers ≤ a) → a < length numbers
     go (inl lt) = lt
     go (inr le) = absurd (true≢false (sym h ∙ ap is_some (get_or-eq_default numbers None le)))
+
+-- ---- who holds the right, by rows
+pub holds_in_row : (es : Entries) → IsGraph es → (right : Right) (y : Name) (a place : ℕ) → HasRight es right y a place → HoldsAt (graph_of es) right y a
+holds_in_row es ok right y a place h = record {
+  name = name;
+  place = there;
+  holds = holds-place es ok a name there place y h.label right h.edge ∙ h.has;
+}
+  where
+    within : a < length (keys_of es)
+    within = go (cases_lt a (length (keys_of es))) h.edge
+      where
+        go : (a < length (keys_of es)) ⊎ (length (keys_of es) ≤ a) → slice_get (row_number es a) place ≡ Some (y, h.label) → a < length (keys_of es)
+        go (inl lt) e = lt
+        go (inr le) e = let past = ap (λ row. slice_get row place) (row_past es a (omega (arith, le, length-keys_of es))) in absurd (cc)
+
+    name : Name
+    name = get_or (keys_of es) a []
+
+    there : slice_get (keys_of es) a ≡ Some name
+    there = slice_get-get_or (keys_of es) a [] within
+
+pub row_of_holder : (es : Entries) → IsGraph es → (right : Right) (y : Name) (a : ℕ) → HoldsAt (graph_of es) right y a → (place : ℕ) × (place < length (row_number es a)) × HasRight es right y a place
+row_of_holder es ok right y a h =
+    let found = place-holds es ok a h.name h.place right y h.holds in
+    (found.0, slice_get_within (row_number es a) found.0 (y, found.1) found.2, record { label = found.1; edge = found.2; has = found.3 })
 
 -- ---- a row is read
 module _ (es : Entries) (i : ℕ) where

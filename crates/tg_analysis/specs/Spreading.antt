@@ -2,6 +2,8 @@
 use Rattle.std.specs.Prelude.{◌≡◌, ℕ, ◌<◌, ◌+◌, Bool, true, false, IsTrue, List, [], ◌∷◌, length, replicate, slice_get, Option, Some, None, is_some, ◌⊎◌}
 use Rattle.std.specs.Map.{keys_of}
 use Rattle.tg_graph.specs.declared.right_sets.Right.{Right}
+use Rattle.tg_graph.specs.declared.right_sets.Rights.{Rights}
+use Rattle.tg_graph.specs.Sets.{member}
 use Rattle.tg_graph.specs.Graphs.{Name, ProtectionGraph}
 use Rattle.tg_graph.specs.GraphOf.{graph_of}
 use Rattle.tg_graph.specs.Rows.{Entries, row_number}
@@ -20,6 +22,12 @@ pub record HoldsAt (g : ProtectionGraph) (right : Right) (y : Name) (a : ℕ) : 
   pub name : Name
   pub place : slice_get g.vertices a ≡ Some name
   pub holds : IsTrue (g.holds name right y)
+
+-- the edge at a place in a row is to y and has the right
+pub record HasRight (es : Entries) (right : Right) (y : Name) (a place : ℕ) : Type 0 where
+  pub label : Rights
+  pub edge : slice_get (row_number es a) place ≡ Some (y, label)
+  pub has : IsTrue (member label right)
 
 -- the start alone was met, and waits
 pub record BeginsAt (count start : ℕ) (spread : Spread) : Type 0 where

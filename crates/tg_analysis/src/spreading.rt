@@ -8,7 +8,7 @@ ghost use Rattle.tg_graph.specs.RuleLists.{CanShare};
 ghost use Rattle.tg_analysis.specs.Sharing.{HeldInIsland};
 ghost use Rattle.tg_analysis.specs.Linked.{is_near};
 ghost use Rattle.tg_analysis.specs.Flooding.{work_left};
-ghost use Rattle.tg_analysis.specs.Spreading.{IsMet, HoldsAt, BeginsAt, Follows, FollowsOn, ReadsEdge, Reads, IsSpread, HasRead, RunsOut, IsAtRest};
+ghost use Rattle.tg_analysis.specs.Spreading.{IsMet, HasRight, HoldsAt, BeginsAt, Follows, FollowsOn, ReadsEdge, Reads, IsSpread, HasRead, RunsOut, IsAtRest};
 
 use crate::flooding::Flood;
 use crate::laws;
@@ -16,18 +16,51 @@ use crate::links::{Links, linked_end};
 use std::alloc::{AllocError, Global};
 use tg_graph::{Graph, Name, Right};
 
-/// Whether x can come to have the right over y.
+// The most edges of a row that is read through faster than its vertex is looked up by name.
+const SHORT_ROW: usize = 16;
+
+/// The question whether x can come to have the right over y.
 #[derive(Clone, Copy)]
 pub struct Asked {
+    /// The right.
     pub right: Right,
+    /// Who may come to have it.
     pub x: Name,
+    /// Over whom.
     pub y: Name,
+}
+
+// Whether the edge at a place in a row is to y and has the right.
+fn has_right(graph: &Graph, asked: &Asked, position: usize, place: usize) -> bool
+    ensures { IsTrue result ↔ HasRight graph.now asked.now.right asked.now.y position place }
+{
+    match graph.row_at(position, place) {
+        Some((target, label)) => label.has(asked.right) && target == asked.y,
+        None => false,
+    }
+}
+
+// Whether the row of a position has an edge to y with the right.
+fn row_has_right(graph: &Graph, asked: &Asked, position: usize) -> bool
+    requires { IsGraph graph.now }
+    ensures { IsTrue result ↔ HoldsAt (graph_of graph.now) asked.now.right asked.now.y position }
+{
+    for place in 0..graph.row_len(position) {
+        if has_right(graph, asked, position, place) {
+            return true;
+        }
+    }
+    false
 }
 
 // Whether the vertex at a position holds the right over y.
 fn is_holder(graph: &Graph, asked: &Asked, position: usize) -> bool
+    requires { IsGraph graph.now }
     ensures { IsTrue result ↔ HoldsAt (graph_of graph.now) asked.now.right asked.now.y position }
 {
+    if graph.row_len(position) <= SHORT_ROW {
+        return row_has_right(graph, asked, position);
+    }
     match graph.name_at(position) {
         Some(name) => graph.holds(name, asked.right, asked.y),
         None => false,
