@@ -8,3 +8,4 @@ pub mod DerivedTexts
 pub mod DealingLemmas
 pub mod OneReport
 pub mod IslandLines
+pub mod OnePlay

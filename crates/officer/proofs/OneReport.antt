@@ -8,7 +8,9 @@ use Rattle.tg_text.proofs.NameOrder.{among, among-in_order, same_name-refl}
 use Rattle.officer.specs.Calls.{CommandWords, Case, Check, Apply, Islands, Share, Derive, Run}
 use Rattle.officer.specs.Readings.{ReportText, Question, graph_in, question_in}
 use Rattle.officer.specs.Reports.{IsReport, IsFor, Is, IsAnswer, IsDerived, TellsIslands, AreIslandLines, island_line, islands_text, check_report, apply_report, graph_part, rules_part}
+use Rattle.officer.specs.Runs.{playing_in, IsPlayed}
 use Rattle.officer.specs.ReportLaws.{FindsRules, GivesRules, ThereIsOneReport}
+use Rattle.officer.proofs.OnePlay.{played_one}
 
 -- ---- tests that agree
 pub same_truth : (b c : Bool) → (b ≡ true → c ≡ true) → (c ≡ true → b ≡ true) → b ≡ c
@@ -73,10 +75,10 @@ for_derived (Ok q) a b i j = derived_one q a b i j
 for_derived (Err fault) a b i j = inl (i ∙ sym j)
 
 pub one_report : ThereIsOneReport
-one_report Case first second a b plain i j = inl (is_one (apply_report (graph_part first) (rules_part first)) a b i j)
-one_report Check first second a b plain i j = inl (is_one (check_report first) a b i j)
-one_report Apply first second a b plain i j = inl (is_one (apply_report first second) a b i j)
-one_report Islands first second a b plain i j = inl (for_one AreIslandLines (graph_in first) a b (λ g h k. islands_one g a b h k) i j)
-one_report (Share right x y) first second a b plain i j = inl (for_one IsAnswer (question_in first right x y) a b (λ q h k. answer_one q a b h k) i j)
-one_report (Derive right x y) first second a b plain i j = for_derived (question_in first right x y) a b i j
-one_report Run first second a b plain i j = absurd (plain refl)
+one_report Case first second a b i j = inl (is_one (apply_report (graph_part first) (rules_part first)) a b i j)
+one_report Check first second a b i j = inl (is_one (check_report first) a b i j)
+one_report Apply first second a b i j = inl (is_one (apply_report first second) a b i j)
+one_report Islands first second a b i j = inl (for_one AreIslandLines (graph_in first) a b (λ g h k. islands_one g a b h k) i j)
+one_report (Share right x y) first second a b i j = inl (for_one IsAnswer (question_in first right x y) a b (λ q h k. answer_one q a b h k) i j)
+one_report (Derive right x y) first second a b i j = for_derived (question_in first right x y) a b i j
+one_report Run first second a b i j = inl (for_one (λ p. IsPlayed p.graph p.script) (playing_in first second) a b (λ p h k. played_one p.graph p.script a b h k) i j)

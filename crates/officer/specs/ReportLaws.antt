@@ -60,9 +60,9 @@ GivesRules Islands first report = ⊥
 GivesRules (Share right x y) first report = ⊥
 GivesRules Run first report = ⊥
 
--- a command has one report for its texts, but that other rules may be found; what a script leads to is not said here
+-- a command has one report for its texts, but that other rules may be found
 abbrev pub ThereIsOneReport : Type 0
-ThereIsOneReport = (command : CommandWords) (first second : List ℕ) (a b : ReportText) → (command ≡ Run → ⊥) → IsReport command first second a → IsReport command first second b → (a ≡ b) ⊎ (GivesRules command first a × GivesRules command first b)
+ThereIsOneReport = (command : CommandWords) (first second : List ℕ) (a b : ReportText) → IsReport command first second a → IsReport command first second b → (a ≡ b) ⊎ (GivesRules command first a × GivesRules command first b)
 
 -- the names are one island whole: what lies in one island with one of them is one of them
 pub record IsIsland (g : ProtectionGraph) (names : List Name) : Type 0 where
