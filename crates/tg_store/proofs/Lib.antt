@@ -7,3 +7,7 @@ pub mod HallLemmas
 pub mod RunLemmas
 pub mod Numbers
 pub mod Learning
+pub mod Weighed
+pub mod RunningSeats
+pub mod RunningSessions
+pub mod Agreeing

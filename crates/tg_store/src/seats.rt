@@ -22,8 +22,8 @@ use tg_graph::{Graph, Refusal, Reply, Rule, Step};
 /// An open session: its own graph, and its steps with their replies.
 #[derive(Drop)]
 pub struct OpenSession {
-    overlay: Overlay,
-    kept: Vec<Answered>,
+    pub(crate) overlay: Overlay,
+    pub(crate) kept: Vec<Answered>,
 }
 
 /// A seat: how many records it has taken in, the graph that they lead to, and its open session.
@@ -81,8 +81,19 @@ fn clear_part(
 impl OpenSession {
     ghost use Rattle.tg_store.specs.Seats.{IsSessionOn};
 
+    /// A session without steps.
+    pub(crate) fn new(base: &Graph, alloc: Global) -> Result<OpenSession, AllocError>
+        ensures on { IfOk result (IsSessionOn base.now) }
+        ensures kept { IfOk result (λ o. o.kept.items ≡ []) }
+    {
+        Ok(OpenSession {
+            overlay: Overlay::new(base)?,
+            kept: Vec::new(alloc),
+        })
+    }
+
     // Answers a step, and keeps it with its reply. An error changes no step.
-    fn stage(&mut self, base: &Graph, step: &Step) -> Result<Reply, AllocError>
+    pub(crate) fn stage(&mut self, base: &Graph, step: &Step) -> Result<Reply, AllocError>
         requires on { IsSessionOn base.now self.old }
         requires named { IsNamedStep step.now }
         ensures reply { IfOk result (λ reply. IsAnswer (after_steps (graph_of base.now) self.old.kept.items) step.now reply) }

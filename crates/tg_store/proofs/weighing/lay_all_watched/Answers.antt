@@ -1,0 +1,22 @@
+use Rattle.std.proofs.Common.{◌≡◌, ◌+◌, None, drop, sym, ap, ◌∙◌}
+use Rattle.std.specs.Prelude.{find}
+use Rattle.tg_graph.specs.GraphOf.{graph_of}
+use Rattle.tg_store.specs.Answers.{after_step}
+use Rattle.tg_store.specs.Touches.{touches, step_writes, spoiler}
+use Rattle.tg_store.proofs.Ordered.{after_steps-more}
+use Rattle.tg_store.proofs.Weighed.{none_of, spoilt-later}
+use Rattle.tg_store.proofs.weighing.lay_all_watched.Goals as goal
+
+pub loop-answered-preserved : goal.loop-answered-preserved
+loop-answered-preserved c =
+    let g = graph_of c.loop-answered.graph in
+    let steps = c.args.committed.now in
+    let session = c.args.session.now in
+    let i = c.loop-answered.answered-index in
+    let a = c.answered-item.result in
+    let lt = c.loop-answered-test.true in
+    let clear : find (touches session) (step_writes g a.step) ≡ None = sym c.in_ok-name.ensures.name ∙ none_of _ (sym c.is_some.ensures ∙ c.if-is_some.false) in
+    record {
+      laid = c.in_ok-name.ensures.graph ∙ ap (λ g. after_step g a.step) c.loop-answered.invariant.laid ∙ sym (after_steps-more (graph_of c.args.graph.now) steps i a lt c.answered-item.is);
+      left = ap (λ g. spoiler g (drop (i + 1) steps) session) c.in_ok-name.ensures.graph ∙ sym (spoilt-later g steps session i a lt c.answered-item.is clear) ∙ c.loop-answered.invariant.left;
+    }

@@ -1,0 +1,27 @@
+use Rattle.std.proofs.Common.{◌≡◌, None, refl, sym, ap, ◌∙◌}
+use Rattle.std.proofs.lemmas.Bool.{false≢true}
+use Rattle.tg_graph.specs.GraphOf.{graph_of}
+use Rattle.tg_store.specs.Answers.{after_steps}
+use Rattle.tg_store.specs.Touches.{spoiler}
+use Rattle.tg_store.proofs.Weighed.{crowds-with}
+use Rattle.tg_store.proofs.weighing.weigh.Goals as goal
+
+pub returns-then-overfills : goal.returns-then-overfills
+returns-then-overfills c =
+    let g = graph_of c.args.base.now in
+    let committed = c.args.committed.now in
+    let session = c.args.session.now in
+    let same = ap graph_of c.in_ok-graph.ensures in
+    let none : spoiler g committed session ≡ None = ap (λ g. spoiler g committed session) (sym same) ∙ sym c.in_ok-name.ensures.name ∙ c.in_default.is in
+    let laid : graph_of c.lay_all_watched.new.graph ≡ after_steps g committed = c.in_ok-name.ensures.graph c.in_default.is ∙ ap (λ g. after_steps g committed) same in
+    (refl, (none, (crowds-with g _ committed session c.len.ensures.graph.apart none c.requires.session laid).0 (c.overfills.ensures.0 c.if-overfills.true)))
+
+pub returns : goal.returns
+returns c =
+    let g = graph_of c.args.base.now in
+    let committed = c.args.committed.now in
+    let session = c.args.session.now in
+    let same = ap graph_of c.in_ok-graph.ensures in
+    let none : spoiler g committed session ≡ None = ap (λ g. spoiler g committed session) (sym same) ∙ sym c.in_ok-name.ensures.name ∙ c.in_default.is in
+    let laid : graph_of c.lay_all_watched.new.graph ≡ after_steps g committed = c.in_ok-name.ensures.graph c.in_default.is ∙ ap (λ g. after_steps g committed) same in
+    ((none, λ crowded. false≢true (sym c.if-overfills.false ∙ c.overfills.ensures.1 ((crowds-with g _ committed session c.len.ensures.graph.apart none c.requires.session laid).1 crowded))), laid)

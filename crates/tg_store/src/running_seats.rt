@@ -1,0 +1,268 @@
+//! The seats of a running store.
+ghost use Rattle.std.specs.Prelude.{◌≡◌, ◌∷◌, ◌++◌, ◌+◌, ◌<◌, ◌≤◌, [], IfOk, OnOk, OnErr, IfSome, IfErr, length, slice_get, take};
+ghost use Rattle.std.specs.Arc.{arc_value};
+ghost use Rattle.std.specs.Option.{option_copied};
+ghost use Rattle.tg_graph.specs.GraphOf.{graph_of};
+ghost use Rattle.tg_journal.specs.Pass.{IsPass};
+ghost use Rattle.tg_journal.specs.Lists.{Begins};
+ghost use Rattle.tg_journal.specs.Answers.{PutSays};
+ghost use Rattle.tg_journal.specs.declared.answers.Put.TheVariants as Put;
+ghost use Rattle.tg_store.specs.Answers.{AreAnswers};
+ghost use Rattle.tg_store.specs.Running.{RunningSeat, seat_number, seat_from, seen_graph, IsSeat, GoesOn, PutsNothing};
+ghost use Rattle.tg_store.specs.Outcomes.{FindsForeign};
+ghost use Rattle.tg_store.specs.Looks.{is_found, LookSays};
+
+use crate::records::Record;
+use crate::replays;
+use std::alloc::{AllocError, Global};
+use std::marker::Model;
+use std::sync::Arc;
+use tg_graph::Graph;
+use tg_journal::{Front, Journal, MeetFault, Next, Pass, Put};
+
+/// A seat of a running store, for one thread. `Store::start` makes it, and it stays with that store.
+///
+/// It knows the records that it has seen, and has a copy of the graph, which is the replay of those that it has taken in.
+#[derive(Drop)]
+pub struct Seat {
+    opening: Arc<Graph, Global>,
+    pass: Pass<Record>,
+    taken: usize,
+    graph: Graph,
+    alloc: Global,
+}
+
+impl Model for Seat {
+    ghost use Rattle.tg_store.specs.Running.{RunningSeat, IsSeat};
+
+    ghost Value = { RunningSeat };
+
+    ghost view = { λ s. record { opening = s.opening.value; pass = s.pass; taken = s.taken; graph = s.graph } };
+
+    ghost invariant = { λ s.
+        IsSeat (record { opening = s.opening.value; pass = s.pass; taken = s.taken; graph = s.graph }) };
+}
+
+/// What a look at the next cell finds.
+#[derive(Clone, Copy, PartialEq, Eq, Debug)]
+pub enum Look {
+    /// A record, which the seat has now seen.
+    Found,
+    /// No record.
+    Nothing,
+    /// At the place, a record of the seat's own number that it did not put.
+    Foreign(usize),
+}
+
+// Whether a record was found.
+fn is_found(look: &Look) -> bool
+    ensures { result ≡ is_found look.now }
+{
+    match *look {
+        Look::Found => true,
+        Look::Nothing | Look::Foreign(_) => false,
+    }
+}
+
+impl Seat {
+    /// A seat that has taken in nothing.
+    pub(crate) fn start(
+        opening: &Arc<Graph, Global>,
+        alloc: Global,
+        pass: Pass<Record>,
+    ) -> Result<Seat, AllocError>
+        requires pass { IsPass seat_number pass }
+        requires seen { pass.seen ≡ [] }
+        requires mine { pass.mine ≡ [] }
+        ensures { IfOk result (λ seat. seat ≡ seat_from (arc_value opening.now) pass) }
+    {
+        let graph = opening.copy()?;
+        Ok(Seat {
+            opening: Arc::try_clone(opening)?,
+            pass,
+            taken: 0,
+            graph,
+            alloc,
+        })
+    }
+
+    /// The seat's number. The seats of a store are numbered from 1.
+    pub fn number(&self) -> u32
+        ensures { result ≡ self.now.pass.number }
+    {
+        self.pass.number()
+    }
+
+    /// How many records the seat has taken in.
+    pub fn taken(&self) -> usize
+        ensures value { result ≡ self.now.taken }
+        ensures seat { IsSeat self.now }
+    {
+        self.taken
+    }
+
+    /// The replay of the records that the seat has taken in.
+    pub fn graph(&self) -> &Graph
+        ensures value { result.now ≡ self.now.graph }
+        ensures replayed { graph_of result.now ≡ seen_graph self.now self.now.taken }
+    {
+        &self.graph
+    }
+
+    // How many records it has seen.
+    pub(crate) fn seen(&self) -> usize
+        ensures { result ≡ length self.now.pass.seen }
+    {
+        self.pass.len()
+    }
+
+    // How many records it has put.
+    pub(crate) fn commits(&self) -> usize
+        ensures { result ≡ length self.now.pass.mine }
+    {
+        self.pass.own()
+    }
+
+    pub(crate) fn alloc(&self) -> Global {
+        self.alloc
+    }
+
+    // A seen record.
+    pub(crate) fn at<'a>(&self, journal: &'a Journal<Record>, place: usize) -> Option<&'a Record>
+        requires { self.now.pass.cells ≡ journal.now }
+        ensures { option_copied result ≡ slice_get self.now.pass.seen place }
+    {
+        journal.at(&self.pass, place)
+    }
+
+    // The records that it has seen, to be met.
+    pub(crate) fn front(&self, journal: &Journal<Record>) -> Result<Front<Record>, AllocError>
+        requires { self.now.pass.cells ≡ journal.now }
+        ensures cells { IfOk result (λ f. f.cells ≡ take (length f.seen) journal.now) }
+        ensures seen { IfOk result (λ f. f.seen ≡ self.now.pass.seen) }
+    {
+        journal.front(&self.pass)
+    }
+
+    // Looks at the next cell.
+    pub(crate) fn look(&mut self, journal: &Journal<Record>) -> Look
+        requires { self.old.pass.cells ≡ journal.now }
+        ensures { LookSays self.old result self.new }
+    {
+        match journal.next(&mut self.pass) {
+            Next::Entry(_) => Look::Found,
+            Next::End => Look::Nothing,
+            Next::Foreign(place) => Look::Foreign(place),
+        }
+    }
+
+    // Looks at one cell after another, for as long as there are records.
+    pub(crate) fn look_all(&mut self, journal: &Journal<Record>) -> Result<(), usize>
+        requires { self.old.pass.cells ≡ journal.now }
+        ensures goes_on { GoesOn self.old self.new × PutsNothing self.old self.new }
+        ensures seat { IsSeat self.new }
+        ensures foreign { IfErr result (λ place. FindsForeign place self.new) }
+    {
+        let mut look = self.look(journal);
+        while is_found(&look) {
+            look = self.look(journal);
+        }
+        match look {
+            Look::Foreign(place) => Err(place),
+            _ => Ok(()),
+        }
+    }
+
+    // Takes in one record that it has seen, whose graph this is.
+    pub(crate) fn take_in(&mut self, graph: Graph)
+        requires seen { self.old.taken < length self.old.pass.seen }
+        requires graph { graph_of graph ≡ seen_graph self.old (self.old.taken + 1) }
+        ensures value { self.new ≡ record { opening = self.old.opening; pass = self.old.pass; taken = self.old.taken + 1; graph = graph } }
+        ensures seat { IsSeat self.new }
+    {
+        self.graph = graph;
+        self.taken += 1;
+    }
+
+    // Lays the record at a place on the graph before it.
+    fn lay_at(
+        &self,
+        journal: &Journal<Record>,
+        place: usize,
+        graph: &mut Graph,
+    ) -> Result<(), AllocError>
+        requires cells { self.now.pass.cells ≡ journal.now }
+        requires seen { place < length self.now.pass.seen }
+        requires graph { graph_of graph.old ≡ seen_graph self.now place }
+        ensures { OnOk result (graph_of graph.new ≡ seen_graph self.now (place + 1)) }
+    {
+        let Some(stored) = self.at(journal, place) else {
+            unreachable!()
+        };
+        replays::lay_all(graph, stored.steps.as_slice())?;
+        Ok(())
+    }
+
+    // The graph with all records on it that it has seen.
+    fn caught_up(&self, journal: &Journal<Record>) -> Result<Graph, AllocError>
+        requires { self.now.pass.cells ≡ journal.now }
+        ensures { IfOk result (λ g. graph_of g ≡ seen_graph self.now (length self.now.pass.seen)) }
+    {
+        let mut graph = self.graph().copy()?;
+        for place in self.taken()..self.seen() {
+            self.lay_at(journal, place, &mut graph)?;
+        }
+        Ok(graph)
+    }
+
+    // Takes in all records that it has seen. An error changes nothing.
+    pub(crate) fn take_in_all(&mut self, journal: &Journal<Record>) -> Result<(), AllocError>
+        requires { self.old.pass.cells ≡ journal.now }
+        ensures goes_on { GoesOn self.old self.new × PutsNothing self.old self.new }
+        ensures seat { IsSeat self.new }
+        ensures pass { self.new.pass ≡ self.old.pass }
+        ensures all { OnOk result (self.new.taken ≡ length self.new.pass.seen) }
+    {
+        let seen = self.seen();
+        if self.taken < seen {
+            let graph = self.caught_up(journal)?;
+            self.graph = graph;
+            self.taken = seen;
+        }
+        Ok(())
+    }
+
+    // Puts a record of its own, which is true where it stands, or sees the one that got there first.
+    pub(crate) fn offer(&mut self, journal: &Journal<Record>, stored: &Record) -> Put
+        requires cells { self.old.pass.cells ≡ journal.now }
+        requires number { (stored.now.seat ≡ self.old.pass.number) × (stored.now.number ≡ length self.old.pass.mine) }
+        requires answers { AreAnswers (graph_of self.old.graph) stored.now.steps }
+        requires all { self.old.taken ≡ length self.old.pass.seen }
+        ensures says { PutSays seat_number stored.now result self.old.pass self.new.pass }
+        ensures full { result ≡ Put.Full → length self.old.pass.seen ≡ length self.old.pass.cells }
+        ensures goes_on { GoesOn self.old self.new }
+        ensures copy { (self.new.taken ≡ self.old.taken) × (self.new.graph ≡ self.old.graph) }
+        ensures seat { IsSeat self.new }
+    {
+        journal.put(&mut self.pass, stored)
+    }
+
+    // Sees what the front has seen.
+    pub(crate) fn meet(
+        &mut self,
+        journal: &Journal<Record>,
+        front: &Front<Record>,
+    ) -> Result<(), usize>
+        requires cells { self.old.pass.cells ≡ journal.now }
+        requires front { front.now.cells ≡ take (length front.now.seen) journal.now }
+        ensures goes_on { GoesOn self.old self.new × PutsNothing self.old self.new }
+        ensures seat { IsSeat self.new }
+        ensures met { IfOk result (λ _. Begins front.now.seen self.new.pass.seen) }
+        ensures foreign { IfErr result (λ place. FindsForeign place self.new) }
+    {
+        match journal.meet(&mut self.pass, front) {
+            Ok(()) => Ok(()),
+            Err(MeetFault::Foreign(place)) => Err(place),
+        }
+    }
+}
