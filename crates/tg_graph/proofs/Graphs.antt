@@ -22,15 +22,33 @@ use Rattle.std.proofs.lemmas.List.{map-append}
 use Rattle.std.proofs.lemmas.List.Folds.{list_any-append}
 use Rattle.std.proofs.lemmas.Map.Keys.{IsDistinct-push}
 
-module _ {P : Edges → Edges → Type 0} (old new : Entries) (x : List ℕ) (c : ChangesRow P old new x) where
-  found_some : IsSome (lookup (bytes_eq x) old)
-  found_some = ap is_some c.found
+-- the row of x changes to one that the fact P ties to it, and each other row stays
+pub record AltersRow (P : Edges → Edges → Type 0) (old new : Entries) (x : List ℕ) : Type 0 where
+  pub before : Edges
+  pub after : Edges
+  pub found : lookup (bytes_eq x) old ≡ Some before
+  pub keys : keys_of new ≡ keys_of old
+  pub rows : (u : List ℕ) → lookup (bytes_eq u) new ≡ cond (bytes_eq x u) (Some after) (lookup (bytes_eq u) old)
+  pub changed : P before after
+  pub row : IsRow after
 
+pub alters : {P : Edges → Edges → Type 0} {old new : Entries} {x : List ℕ} → ChangesRow P old new x → AltersRow P old new x
+alters {old = old} {x = x} c = record {
+  before = c.before;
+  after = c.after;
+  found = c.found;
+  keys = ap keys_of c.put ∙ keys-set_value (bytes_eq x) old c.after;
+  rows = λ u. ap (lookup (bytes_eq u)) c.put ∙ lookup-set_value nat_list_eq_equiv (bytes_eq x) (nat_list_eq_equiv.congr x) u c.after old (ap is_some c.found);
+  changed = c.changed;
+  row = c.row;
+}
+
+module _ {P : Edges → Edges → Type 0} (old new : Entries) (x : List ℕ) (c : AltersRow P old new x) where
   pub row-changed : (u : List ℕ) → lookup (bytes_eq u) new ≡ cond (bytes_eq x u) (Some c.after) (lookup (bytes_eq u) old)
-  row-changed u = ap (lookup (bytes_eq u)) c.put ∙ lookup-set_value nat_list_eq_equiv (bytes_eq x) (nat_list_eq_equiv.congr x) u c.after old found_some
+  row-changed = c.rows
 
   pub keys-changed : keys_of new ≡ keys_of old
-  keys-changed = ap keys_of c.put ∙ keys-set_value (bytes_eq x) old c.after
+  keys-changed = c.keys
 
   here : (u : List ℕ) → bytes_eq x u ≡ true → lookup (bytes_eq u) new ≡ Some c.after
   here u e = row-changed u ∙ ap (λ b. cond b (Some c.after) (lookup (bytes_eq u) old)) e
@@ -51,7 +69,7 @@ module _ {P : Edges → Edges → Type 0} (old new : Entries) (x : List ℕ) (c 
   names-changed : ((v : List ℕ) → is_known old v ≡ true → IsName v) → (v : List ℕ) → is_known new v ≡ true → IsName v
   names-changed h v k = h v (sym (ap (list_any (bytes_eq v)) keys-changed) ∙ k)
 
-module _ (old new : Entries) (x y : List ℕ) (s : Rights) (c : ChangesRow (λ a b. Adds a b y s) old new x) where
+module _ (old new : Entries) (x y : List ℕ) (s : Rights) (c : AltersRow (λ a b. Adds a b y s) old new x) where
   holds-adds : (u : List ℕ) (right : Right) (v : List ℕ) → (graph_of new).holds u right v ≡ with_edge (graph_of old).holds x y s u right v
   holds-adds u right v = by (bytes_eq x u) refl
     where
@@ -93,11 +111,11 @@ module _ (old new : Entries) (x y : List ℕ) (s : Rights) (c : ChangesRow (λ a
 
 module _ (old new : Entries) (x y : List ℕ) (s : Rights) where
   pub graph-joined : (added : Bool) → MatchBool added (ChangesRow (λ a b. Adds a b y s) old new x) (new ≡ old) → MatchBool added (graph_of new ≡ with_rights (graph_of old) x y s) (new ≡ old)
-  graph-joined true c = graph-adds old new x y s c
+  graph-joined true c = graph-adds old new x y s (alters c)
   graph-joined false e = e
 
   pub is_graph-joined : (added : Bool) → MatchBool added (ChangesRow (λ a b. Adds a b y s) old new x) (new ≡ old) → IsGraph old → is_known old y ≡ true → IsGraph new
-  is_graph-joined true c g k = is_graph-adds old new x y s c g k
+  is_graph-joined true c g k = is_graph-adds old new x y s (alters c) g k
   is_graph-joined false e g k = subst IsGraph (sym e) g
 
 -- ---- one more vertex
@@ -170,7 +188,7 @@ module _ (n : List ℕ) where
   pub is_graph-new_vertex : (es : Entries) → IsGraph es → is_known es n ≡ false → IsName n → IsGraph (pushed es)
   is_graph-new_vertex es g fresh name = is_graph-pushed es g.apart (λ u v h. either_left (is_known es v) (bytes_eq v n) (g.known u v h)) g.rows fresh name g.names
 
-  module _ (x : List ℕ) (s : Rights) (old mid : Entries) (c : ChangesRow (λ a b. Adds a b n s) old mid x) where
+  module _ (x : List ℕ) (s : Rights) (old mid : Entries) (c : AltersRow (λ a b. Adds a b n s) old mid x) where
     pub graph-creates : graph_of (pushed mid) ≡ with_rights (with_vertex (graph_of old) n) x n s
     graph-creates = graph-pushed mid ∙ (λ i. record { vertices = keys-changed old mid x c i ++ n ∷ []; holds = (graph-adds old mid x n s c i).holds })
 
@@ -198,7 +216,7 @@ with_edge-nothing holds x y s e = λ i u right v. by (holds u right v) (bytes_eq
     by false false right = refl
 
 -- ---- rights taken away
-module _ (old new : Entries) (x y : List ℕ) (s : Rights) (c : ChangesRow (λ a b. TakesAway a b y s) old new x) where
+module _ (old new : Entries) (x y : List ℕ) (s : Rights) (c : AltersRow (λ a b. TakesAway a b y s) old new x) where
   holds-takes : (u : List ℕ) (right : Right) (v : List ℕ) → (graph_of new).holds u right v ≡ without_edge (graph_of old).holds x y s u right v
   holds-takes u right v = by (bytes_eq x u) refl
     where

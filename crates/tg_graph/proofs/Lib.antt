@@ -10,3 +10,6 @@ pub mod Digits
 pub mod NameLaws
 pub mod RunLaws
 pub mod RowsOf
+pub mod NewNames
+pub mod Drafts
+pub mod DraftLaws

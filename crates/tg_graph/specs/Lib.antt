@@ -12,3 +12,4 @@ pub mod Letters
 pub mod RowsOf
 pub mod Laws
 pub mod Limits
+pub mod Drafts

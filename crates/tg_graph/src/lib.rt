@@ -1,6 +1,10 @@
 //! Protection graphs: names, rights, the graph and its four rules.
 #![tactic(auto)]
 
+mod checks;
+pub mod draft;
+#[cfg(test)]
+mod draft_tests;
 pub mod laws;
 mod limits;
 #[cfg(test)]
@@ -11,9 +15,11 @@ pub mod right_sets;
 mod row;
 pub mod rules;
 pub mod session;
+mod shared_row;
 #[cfg(test)]
 mod tests;
 
+pub use draft::{Draft, Ready};
 pub use limits::{MOST_CELLS, MOST_SEATS, MOST_VERTICES};
 pub use names::{Name, NameFault};
 pub use protection::{EdgeFault, Graph, VertexFault};

@@ -1,7 +1,7 @@
 //! Protection graphs.
 ghost use Rattle.std.specs.Prelude.{◌≡◌, ◌<◌, ◌++◌, ◌∷◌, [], Some, None, true, false, IfOk, OnOk, OnErr, bytes_eq, length, slice_get, position};
-ghost use Rattle.std.specs.Map.{keys_of};
-ghost use Rattle.indexmap.specs.IndexMap.{spare};
+ghost use Rattle.std.specs.Map.{keys_of, lookup};
+ghost use Rattle.indexmap.specs.IndexMap.{spare, insert_all};
 ghost use Rattle.tg_graph.specs.Sets.{IsNamed};
 ghost use Rattle.tg_graph.specs.Rows.{label_of, is_known, has_edge, IsLabel, IsGraph, row_number, Adds, TakesAway, ChangesRow};
 ghost use Rattle.tg_graph.specs.Graphs.{has_vertex, WellFormed};
@@ -11,10 +11,12 @@ ghost use Rattle.tg_graph.specs.Sets.{is_empty_set};
 ghost use Rattle.tg_graph.specs.Additions.{AddsVertex, AddsEdge, label_at, label_between, Runs, AreNamed};
 ghost use Rattle.std.specs.Prelude.{not, MatchBool, if◌then◌else◌};
 
+use crate::checks::{self, Rows};
 use crate::names::Name;
 use crate::right_sets::{Right, Rights};
 use crate::row::Row;
 use crate::rules::{Refusal, Rule, RuleFault};
+use crate::shared_row::SharedRow;
 use bitflags::Flags;
 use indexmap::IndexMap;
 use std::alloc::{AllocError, Global};
@@ -27,7 +29,7 @@ use std::marker::Model;
 /// A call that is refused changes nothing.
 #[derive(Drop)]
 pub struct Graph {
-    rows: IndexMap<Name, Row>,
+    rows: IndexMap<Name, SharedRow>,
     alloc: Global,
 }
 
@@ -45,7 +47,12 @@ impl Model for Graph {
 }
 
 // Adds rights to the label of an edge.
-fn widen(rows: &mut IndexMap<Name, Row>, x: Name, y: Name, rights: Rights) -> Result<(), AllocError>
+fn widen(
+    rows: &mut IndexMap<Name, SharedRow>,
+    x: Name,
+    y: Name,
+    rights: Rights,
+) -> Result<(), AllocError>
     requires named { IsNamed rights }
     requires known { is_known rows.old.entries x ≡ true }
     ensures widened { OnOk result
@@ -61,7 +68,7 @@ fn widen(rows: &mut IndexMap<Name, Row>, x: Name, y: Name, rights: Rights) -> Re
 
 // Adds an edge if there is none, and says whether there was none.
 fn link(
-    rows: &mut IndexMap<Name, Row>,
+    rows: &mut IndexMap<Name, SharedRow>,
     x: Name,
     y: Name,
     rights: Rights,
@@ -81,13 +88,13 @@ fn link(
     }
 }
 
-// Adds a vertex with no edges, for which there is room.
-fn append(rows: &mut IndexMap<Name, Row>, alloc: Global, n: Name)
+// Adds a vertex with its row, for which there is room.
+fn append(rows: &mut IndexMap<Name, SharedRow>, n: Name, row: SharedRow)
     requires room { 0 < spare rows.old }
     requires fresh { is_known rows.old.entries n ≡ false }
-    ensures { rows.new.entries ≡ rows.old.entries ++ (n, []) ∷ [] }
+    ensures { rows.new.entries ≡ rows.old.entries ++ (n, row) ∷ [] }
 {
-    let _ = rows.insert(n, Row::new(alloc));
+    let _ = rows.insert(n, row);
 }
 
 /// Why a vertex was not added.
@@ -131,6 +138,63 @@ impl From<AllocError> for EdgeFault {
 
     fn from(_error: AllocError) -> EdgeFault {
         EdgeFault::Memory
+    }
+}
+
+impl Rows for Graph {
+    ghost entries = { λ g. g };
+
+    fn row(&self, x: Name) -> Option<&Row> {
+        match self.rows.get(&x) {
+            Some(row) => Some(row.edges()),
+            None => None,
+        }
+    }
+}
+
+impl Graph {
+    // The row of a vertex, shared with the graph.
+    pub(crate) fn row_of(&self, x: Name) -> Result<SharedRow, AllocError>
+        requires { is_known self.now x ≡ true }
+        ensures row { IfOk result (λ row. lookup (bytes_eq x) self.now ≡ Some row) }
+    {
+        match self.rows.get(&x) {
+            Some(row) => row.clone(),
+            None => SharedRow::new(self.alloc),
+        }
+    }
+
+    // Where the rows take memory.
+    pub(crate) fn allocator(&self) -> Global {
+        self.alloc
+    }
+
+    // The rows.
+    pub(crate) fn into_rows(self) -> (IndexMap<Name, SharedRow>, Global)
+        ensures rows { result.0.entries ≡ self }
+        ensures graph { IsGraph self }
+    {
+        let Graph { rows, alloc } = self;
+        (rows, alloc)
+    }
+
+    // The graph of the rows.
+    pub(crate) fn from_rows(rows: IndexMap<Name, SharedRow>, alloc: Global) -> Graph
+        requires { IsGraph rows.entries }
+        ensures { result ≡ rows.entries }
+    {
+        Graph { rows, alloc }
+    }
+
+    // Puts each of the rows in. Where memory is refused, they stay where they are.
+    pub(crate) fn lay(&mut self, rows: &mut IndexMap<Name, SharedRow>) -> Result<(), AllocError>
+        requires { IsGraph (insert_all bytes_eq self.old rows.old.entries) }
+        ensures laid { OnOk result (self.new ≡ insert_all bytes_eq self.old rows.old.entries) }
+        ensures err { OnErr result (self.new ≡ self.old) }
+        ensures left { OnErr result (rows.new.entries ≡ rows.old.entries) }
+    {
+        self.rows.append(rows)?;
+        Ok(())
     }
 }
 
@@ -184,17 +248,14 @@ impl Graph {
         ensures label { result ≡ label_between (graph_of self.now) x y }
         ensures named { IsNamed result }
     {
-        match self.rows.get(&x) {
-            Some(row) => row.label(y),
-            None => Rights::empty(),
-        }
+        checks::label_between(self, x, y)
     }
 
     /// Whether x has a right over y. Where one of them is no vertex, it has not.
     pub fn holds(&self, x: Name, right: Right, y: Name) -> bool
         ensures { result ≡ (graph_of self.now).holds x right y }
     {
-        self.label_between(x, y).has(right)
+        checks::holds(self, x, right, y)
     }
 
     // Adds rights to the label of an edge.
@@ -233,8 +294,9 @@ impl Graph {
             return Err(VertexFault::Taken);
         }
         let _ = n.as_bytes();
+        let row = SharedRow::new(self.alloc)?;
         self.rows.reserve(1)?;
-        append(&mut self.rows, self.alloc, n);
+        append(&mut self.rows, n, row);
         Ok(())
     }
 
@@ -248,114 +310,34 @@ impl Graph {
         ensures err { OnErr result (self.new ≡ self.old) }
     {
         let _ = n.as_bytes();
+        let row = SharedRow::new(self.alloc)?;
         self.rows.reserve(1)?;
         widen(&mut self.rows, x, n, rights)?;
-        append(&mut self.rows, self.alloc, n);
-        Ok(())
-    }
-
-    // The first refusal of a take.
-    #[tactic(auto, unfolding(crate::specs::Rules::refusal_of, crate::specs::Rules::after))]
-    fn check_take(&self, x: Name, y: Name, z: Name, rights: Rights) -> Result<(), Refusal>
-        requires { IsNamed rights }
-        ensures { result ≡ verdict (refusal_of (graph_of self.now) (Rule.Take x y z rights)) }
-    {
-        if !self.knows(x) {
-            return Err(Refusal::Unknown(x));
-        }
-        if !self.knows(y) {
-            return Err(Refusal::Unknown(y));
-        }
-        if !self.knows(z) {
-            return Err(Refusal::Unknown(z));
-        }
-        if rights.is_empty() {
-            return Err(Refusal::Empty);
-        }
-        if !self.holds(x, Right::T, y) {
-            return Err(Refusal::NoTake);
-        }
-        not_held(rights.difference(self.label_between(y, z)))
-    }
-
-    // The first refusal of a create.
-    #[tactic(auto, unfolding(crate::specs::Rules::refusal_of, crate::specs::Rules::after))]
-    fn check_create(&self, x: Name, n: Name, rights: Rights) -> Result<(), Refusal>
-        ensures { result ≡ verdict (refusal_of (graph_of self.now) (Rule.Create x n rights)) }
-    {
-        if !self.knows(x) {
-            return Err(Refusal::Unknown(x));
-        }
-        if self.knows(n) {
-            return Err(Refusal::Taken(n));
-        }
+        append(&mut self.rows, n, row);
         Ok(())
     }
 }
 
 impl Graph {
-    // The first refusal of a grant.
-    #[tactic(auto, unfolding(crate::specs::Rules::refusal_of, crate::specs::Rules::after))]
-    fn check_grant(&self, x: Name, y: Name, z: Name, rights: Rights) -> Result<(), Refusal>
-        requires { IsNamed rights }
-        ensures { result ≡ verdict (refusal_of (graph_of self.now) (Rule.Grant x y z rights)) }
-    {
-        if !self.knows(x) {
-            return Err(Refusal::Unknown(x));
-        }
-        if !self.knows(y) {
-            return Err(Refusal::Unknown(y));
-        }
-        if !self.knows(z) {
-            return Err(Refusal::Unknown(z));
-        }
-        if rights.is_empty() {
-            return Err(Refusal::Empty);
-        }
-        if !self.holds(x, Right::G, y) {
-            return Err(Refusal::NoGrant);
-        }
-        not_held(rights.difference(self.label_between(x, z)))
-    }
-
-    // The first refusal of a remove.
-    #[tactic(auto, unfolding(crate::specs::Rules::refusal_of, crate::specs::Rules::after))]
-    fn check_remove(&self, x: Name, y: Name, rights: Rights) -> Result<(), Refusal>
-        ensures { result ≡ verdict (refusal_of (graph_of self.now) (Rule.Remove x y rights)) }
-    {
-        if !self.knows(x) {
-            return Err(Refusal::Unknown(x));
-        }
-        if !self.knows(y) {
-            return Err(Refusal::Unknown(y));
-        }
-        if rights.is_empty() {
-            return Err(Refusal::Empty);
-        }
-        Ok(())
-    }
-
     /// Whether the graph accepts a rule. The error is the first reason to refuse it.
     #[tactic(auto, unfolding(crate::specs::Rules::refusal_of, crate::specs::Rules::after))]
     pub fn check(&self, rule: &Rule) -> Result<(), Refusal>
         requires { IsNamed (rights_of rule.now) }
         ensures { result ≡ verdict (refusal_of (graph_of self.now) rule.now) }
     {
-        match *rule {
-            Rule::Take { x, y, z, rights } => self.check_take(x, y, z, rights),
-            Rule::Grant { x, y, z, rights } => self.check_grant(x, y, z, rights),
-            Rule::Create { x, n, rights } => self.check_create(x, n, rights),
-            Rule::Remove { x, y, rights } => self.check_remove(x, y, rights),
-        }
+        checks::check(self, rule)
     }
 
     // Takes rights out of the label of an edge.
-    fn withdraw(&mut self, x: Name, y: Name, rights: Rights)
+    fn withdraw(&mut self, x: Name, y: Name, rights: Rights) -> Result<(), AllocError>
         requires named { IsNamed rights }
         requires source { has_vertex (graph_of self.old) x ≡ true }
-        ensures { graph_of self.new ≡ without_rights (graph_of self.old) x y rights }
+        ensures taken { OnOk result
+            (graph_of self.new ≡ without_rights (graph_of self.old) x y rights) }
+        ensures err { OnErr result (self.new ≡ self.old) }
     {
-        narrow(&mut self.rows, x, y, rights);
+        narrow(&mut self.rows, x, y, rights)?;
+        Ok(())
     }
 
     /// Carries out a rule. It fails where `check` does, and where a request for memory is refused.
@@ -370,7 +352,7 @@ impl Graph {
             Rule::Take { x, z, rights, .. } => self.give(x, z, rights)?,
             Rule::Grant { y, z, rights, .. } => self.give(y, z, rights)?,
             Rule::Create { x, n, rights } => self.create(x, n, rights)?,
-            Rule::Remove { x, y, rights } => self.withdraw(x, y, rights),
+            Rule::Remove { x, y, rights } => self.withdraw(x, y, rights)?,
         }
         Ok(())
     }
@@ -414,7 +396,7 @@ impl Graph {
         ensures { result ≡ length (row_number self.now position) }
     {
         match self.rows.get_index(position) {
-            Some((_, row)) => row.len(),
+            Some((_, row)) => row.edges().len(),
             None => 0,
         }
     }
@@ -425,7 +407,7 @@ impl Graph {
         ensures { result ≡ slice_get (row_number self.now position) place }
     {
         match self.rows.get_index(position) {
-            Some((_, row)) => row.at(place),
+            Some((_, row)) => row.edges().at(place),
             None => None,
         }
     }
@@ -468,24 +450,20 @@ impl Graph {
 }
 
 // Takes rights out of the label of an edge.
-fn narrow(rows: &mut IndexMap<Name, Row>, x: Name, y: Name, rights: Rights)
+fn narrow(
+    rows: &mut IndexMap<Name, SharedRow>,
+    x: Name,
+    y: Name,
+    rights: Rights,
+) -> Result<(), AllocError>
     requires named { IsNamed rights }
     requires known { is_known rows.old.entries x ≡ true }
-    ensures { ChangesRow (λ a b. TakesAway a b y rights) rows.old.entries rows.new.entries x }
+    ensures narrowed { OnOk result
+        (ChangesRow (λ a b. TakesAway a b y rights) rows.old.entries rows.new.entries x) }
+    ensures err { OnErr result (rows.new.entries ≡ rows.old.entries) }
 {
     match rows.get_mut(&x) {
         Some(row) => row.take(y, rights),
-        None => {},
-    }
-}
-
-// The refusal for rights that are not held, if there are such.
-fn not_held(missing: Rights) -> Result<(), Refusal>
-    ensures { result ≡ verdict (not_held missing) }
-{
-    if missing.is_empty() {
-        Ok(())
-    } else {
-        Err(Refusal::NotHeld(missing))
+        None => Ok(()),
     }
 }

@@ -66,8 +66,8 @@ impl Row {
         self.edges.get(position).copied()
     }
 
-    // Where the edge to y is, or where it would go.
-    fn place(&self, y: Name) -> Result<usize, usize>
+    /// Where the edge to y is, or where it would go.
+    pub fn place(&self, y: Name) -> Result<usize, usize>
         ensures found { IfOk result (IsPlaceOf self.now y) }
         ensures absent { IfErr result (IsGapFor self.now y) }
         ensures row { IsRow self.now }
@@ -105,8 +105,8 @@ impl Row {
         self.edges[place] = (y, label);
     }
 
-    // Puts an edge to y in, for which the place is a gap.
-    fn insert(&mut self, place: usize, y: Name, label: Rights) -> Result<(), AllocError>
+    /// Puts an edge to y in, for which the place is a gap.
+    pub fn insert(&mut self, place: usize, y: Name, label: Rights) -> Result<(), AllocError>
         requires place { IsGapFor self.old y place }
         requires label { IsLabel label }
         ensures puts { OnOk result (Puts self.old self.new y (Some label)) }

@@ -25,8 +25,9 @@ use Rattle.tg_graph.specs.RuleLists.{AllAccepted, after_all, CanShare}
 use Rattle.tg_graph.proofs.Rows.{same_bytes}
 use Rattle.tg_graph.proofs.Same.{refusal-same, after-same}
 use Rattle.tg_analysis.proofs.NameTests.{same_refl}
+use Rattle.tg_graph.specs.Limits.{most_vertices}
 use Rattle.tg_store.specs.declared.answers.Answered.{Answered}
-use Rattle.tg_store.specs.Answers.{most_vertices, IsAnswer, AreAnswers, session_refusal, lack_of_room, or_else, unknown_of_two, reply_unless, after_step, after_steps}
+use Rattle.tg_store.specs.Answers.{IsAnswer, AreAnswers, session_refusal, lack_of_room, or_else, unknown_of_two, reply_unless, after_step, after_steps}
 use Rattle.tg_store.specs.Touches.{written_by, step_writes, writes, step_touches, reply_touches, touches, step_creates, creates}
 
 -- the rows of the names that pass the test are the same, each of them is a vertex of both or of none, and each vertex of g is one of h

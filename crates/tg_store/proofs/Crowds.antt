@@ -14,8 +14,9 @@ use Rattle.tg_graph.specs.declared.session.Step.{Step}
 use Rattle.tg_graph.specs.declared.session.Step.TheVariants.{Do, Holds, Share}
 use Rattle.tg_graph.specs.Graphs.{Name, ProtectionGraph, has_vertex, same_name}
 use Rattle.tg_graph.specs.Rules.{refusal_of, refused_if}
+use Rattle.tg_graph.specs.Limits.{most_vertices}
 use Rattle.tg_store.specs.declared.answers.Answered.{Answered}
-use Rattle.tg_store.specs.Answers.{most_vertices, AreAnswers, session_refusal, lack_of_room, or_else, after_step, after_steps}
+use Rattle.tg_store.specs.Answers.{AreAnswers, session_refusal, lack_of_room, or_else, after_step, after_steps}
 use Rattle.tg_store.specs.Touches.{writes, step_touches, reply_touches, touches, step_creates, creates, spoiler, name_count}
 use Rattle.tg_analysis.proofs.NameTests.{same_refl}
 use Rattle.tg_store.proofs.Agreement.{Agree, agree_self, apart_find, untouched-steps, vertices-step, vertices-steps, keeps}

@@ -1,10 +1,11 @@
 -- What an event keeps of a hall.
-use Rattle.std.proofs.Common.{◌≡◌, ℕ, zero, suc, ◌+◌, ◌-◌, ◌<◌, ◌≤◌, ◌⊎◌, ◌++◌, ◌==◌, true, false, List, [], ◌∷◌, length, take, get_or, set, map, replicate, Option, None, Some, All, IfSome, MatchOption, is_some, refl, sym, ap, subst, ◌∙◌, arith, inl, inr, add-one, true≢false}
+use Rattle.std.proofs.Common.{◌≡◌, ◌≢◌, ℕ, zero, suc, ◌+◌, ◌-◌, ◌<◌, ◌≤◌, ◌⊎◌, ◌++◌, ◌==◌, true, false, List, [], ◌∷◌, length, take, get_or, set, map, replicate, Option, None, Some, All, IfSome, MatchOption, is_some, refl, sym, ap, subst, ◌∙◌, arith, inl, inr, add-one, true≢false}
 use Rattle.std.specs.Prelude.{slice_get, if◌then◌else◌}
 use Rattle.std.specs.Option.{option_map}
 use Rattle.std.proofs.lemmas.Bool.{cases_lt}
 use Rattle.std.proofs.lemmas.Bool.Decides.{nat_tests}
-use Rattle.std.proofs.lemmas.List.{length-append, take-append-le, take_all, map-set, get_or_push, get_or_append_left, length-map}
+use Rattle.std.proofs.lemmas.List.{length-append, take-append-le, take_all, map-set, get_or_push, get_or_append_left, length-map, length-set, get_or-set_same, get_or-set_other}
+use Rattle.std.proofs.lemmas.List.Elements.{All-map, All-weaker}
 use Rattle.std.proofs.lemmas.Option.{slice_get-map, slice_get_within, slice_get_past, slice_get-get_or, slice_get_read, get_or_from_slice_get}
 use Rattle.tg_graph.specs.Graphs.{ProtectionGraph}
 use Rattle.tg_graph.specs.GraphOf.{graph_of}
@@ -20,10 +21,11 @@ use Rattle.tg_store.specs.declared.events.HallFault.TheVariants.{NoSeat, NotOpen
 use Rattle.tg_store.specs.declared.halls.Hall.TheInside.{Inside}
 use Rattle.tg_store.specs.Answers.{AreAnswers}
 use Rattle.tg_store.specs.Histories.{replay, IsLegal, IsNumbered, count_of}
-use Rattle.tg_store.specs.Worlds.{World, SeatView, seat_of, seat_in, rests_on, with_seat, Moves, Happens, Joins, Puts, TakesIn}
-use Rattle.tg_store.specs.Seats.{seen_seat, IsSessionOn, IsConsistent, Rests}
+use Rattle.tg_store.specs.Worlds.{World, SeatView, seat_of, seat_in, rests_on, with_seat, TakeWithin, HoldTrue, Moves, Happens, Joins, Puts, TakesIn}
+use Rattle.tg_store.specs.Seats.{seen_seat, IsSessionOn, IsConsistent, Rests, AreCounted}
 use Rattle.tg_store.specs.HallFields.{world_of}
 use Rattle.tg_store.proofs.Ordered.{legal-push, legal-at}
+use Rattle.tg_store.proofs.Numbers.{count-other}
 use Rattle.tg_store.proofs.SeatLemmas.{rests-grown}
 
 -- ---- seats by their numbers
@@ -70,14 +72,13 @@ view_set h k i t later e =
     (λ j. record { opening = h.opening; cells = h.cells; history = later; seats = (map-set seen_seat h.seats.items i t ∙ ap (λ n. set (map seen_seat h.seats.items) n (seen_seat t)) place) j })
 
 -- ---- the history after an event
--- a session of the seat has joined the history
-pub record Joined (cells : ℕ) (history : List Record) (s : SeatView) (later : List Record) : Type 0 where
-  pub seat : ℕ
+-- a session of the seat of the number k has joined the history
+pub record Joined (cells k : ℕ) (history : List Record) (s : SeatView) (later : List Record) : Type 0 where
   pub steps : List Answered
   pub session : s.session ≡ Some steps
   pub all_taken : length history ≤ s.taken
   pub room : length history < cells
-  pub put : later ≡ history ++ (record { seat = seat; number = count_of seat history; steps = steps }) ∷ []
+  pub put : later ≡ history ++ (record { seat = k; number = count_of k history; steps = steps }) ∷ []
 
 no_place : (history : List Record) (i : ℕ) → slice_get history i ≡ None → length history ≤ i
 no_place history i e = by (cases_lt i (length history))
@@ -92,25 +93,25 @@ no_place history i e = by (cases_lt i (length history))
     by (inl lt) = absurd (true≢false (sym (some history i lt) ∙ ap is_some e))
 
 module _ (cells k : ℕ) (history : List Record) (s t : SeatView) (later : List Record) where
-  joined : (steps : List Answered) (answer : HallReply) → s.session ≡ Some steps → slice_get history s.taken ≡ None → Joins cells k history steps s answer t later → (later ≡ history) ⊎ Joined cells history s later
-  joined steps (reply.Put place) e n j = inr (record { seat = k; steps = steps; session = e; all_taken = no_place history s.taken n; room = j.1; put = j.3 })
+  joined : (steps : List Answered) (answer : HallReply) → s.session ≡ Some steps → slice_get history s.taken ≡ None → Joins cells k history steps s answer t later → (later ≡ history) ⊎ Joined cells k history s later
+  joined steps (reply.Put place) e n j = inr (record { steps = steps; session = e; all_taken = no_place history s.taken n; room = j.1; put = j.3 })
   joined steps (reply.Refused JournalFull) e n j = inl j.2
   joined steps (reply.Refused Memory) e n j = inl j.2
   joined steps _ e n j = absurd j
 
-  put_grows : (g : ProtectionGraph) (answer : HallReply) → Puts g cells k history s answer t later → (later ≡ history) ⊎ Joined cells history s later
+  put_grows : (g : ProtectionGraph) (answer : HallReply) → Puts g cells k history s answer t later → (later ≡ history) ⊎ Joined cells k history s later
   put_grows g answer p = by s.session refl p
     where
-      next : (steps : List Answered) (o : Option Record) → s.session ≡ Some steps → slice_get history s.taken ≡ o → MatchOption o (Joins cells k history steps s answer t later) (λ r. TakesIn g r s answer t × (later ≡ history)) → (later ≡ history) ⊎ Joined cells history s later
+      next : (steps : List Answered) (o : Option Record) → s.session ≡ Some steps → slice_get history s.taken ≡ o → MatchOption o (Joins cells k history steps s answer t later) (λ r. TakesIn g r s answer t × (later ≡ history)) → (later ≡ history) ⊎ Joined cells k history s later
       next steps None e n j = joined steps answer e n j
       next steps (Some r) e n j = inl j.1
 
-      by : (o : Option (List Answered)) → s.session ≡ o → MatchOption o ((answer ≡ reply.Refused NotOpen) × (t ≡ s) × (later ≡ history)) (λ steps. MatchOption (slice_get history s.taken) (Joins cells k history steps s answer t later) (λ r. TakesIn g r s answer t × (later ≡ history))) → (later ≡ history) ⊎ Joined cells history s later
+      by : (o : Option (List Answered)) → s.session ≡ o → MatchOption o ((answer ≡ reply.Refused NotOpen) × (t ≡ s) × (later ≡ history)) (λ steps. MatchOption (slice_get history s.taken) (Joins cells k history steps s answer t later) (λ r. TakesIn g r s answer t × (later ≡ history))) → (later ≡ history) ⊎ Joined cells k history s later
       by None e p = inl p.2
       by (Some steps) e p = next steps (slice_get history s.taken) e refl p
 
 -- an event leaves the history, or a session joins it
-pub grows : (g : ProtectionGraph) (cells : ℕ) (history : List Record) (s : SeatView) (event : Event) (answer : HallReply) (t : SeatView) (later : List Record) → Moves g cells history s event answer t later → (later ≡ history) ⊎ Joined cells history s later
+pub grows : (g : ProtectionGraph) (cells : ℕ) (history : List Record) (s : SeatView) (event : Event) (answer : HallReply) (t : SeatView) (later : List Record) → Moves g cells history s event answer t later → (later ≡ history) ⊎ Joined cells (seat_in event) history s later
 grows g cells history s (Begin k) answer t later m = inl m.1
 grows g cells history s (Learn k) answer t later m = inl m.1
 grows g cells history s (Stage k step) answer t later m = inl m.1
@@ -134,31 +135,68 @@ numbered-push history r h e place x is = by (cases_lt place (length history))
         subst (λ (y : Record). y.number ≡ count_of y.seat (take place (history ++ r ∷ []))) same
         (e ∙ ap (count_of r.seat) (sym (take-append-le place history (r ∷ []) (omega (arith, at)) ∙ take_all place history (omega (arith, at)))))
 
-module _ (g : ProtectionGraph) (cells : ℕ) (history : List Record) (s : SeatState) (later : List Record) (rest : Rests g history s) where
-  all_taken : Joined cells history (seen_seat s) later → replay g history ≡ graph_of s.graph
+module _ (g : ProtectionGraph) (cells k : ℕ) (history : List Record) (s : SeatState) (later : List Record) (rest : Rests g history s) where
+  all_taken : Joined cells k history (seen_seat s) later → replay g history ≡ graph_of s.graph
   all_taken j = ap (replay g) (sym (take_all s.taken history j.all_taken)) ∙ sym rest.replayed
 
   session_steps : (o : Option OpenSession) (steps : List Answered) → option_map (λ (o : OpenSession). o.kept.items) o ≡ Some steps → IfSome o (IsSessionOn s.graph) → AreAnswers (graph_of s.graph) steps
   session_steps None steps e h = absurd (true≢false (sym (ap is_some e)))
   session_steps (Some o) steps e h = subst (λ x. IfSome x (AreAnswers (graph_of s.graph))) e h.answers
 
-  pub legal-later : IsLegal g history → IsConsistent s → (later ≡ history) ⊎ Joined cells history (seen_seat s) later → IsLegal g later
+  pub legal-later : IsLegal g history → IsConsistent s → (later ≡ history) ⊎ Joined cells k history (seen_seat s) later → IsLegal g later
   legal-later l c (inl e) = subst (IsLegal g) (sym e) l
   legal-later l c (inr j) =
       subst (IsLegal g) (sym j.put)
-      (legal-push g history _ l (subst (λ k. AreAnswers k j.steps) (sym (all_taken j)) (session_steps s.session j.steps j.session c)))
+      (legal-push g history _ l (subst (λ h. AreAnswers h j.steps) (sym (all_taken j)) (session_steps s.session j.steps j.session c)))
 
-  pub numbered-later : IsNumbered history → (later ≡ history) ⊎ Joined cells history (seen_seat s) later → IsNumbered later
+  pub numbered-later : IsNumbered history → (later ≡ history) ⊎ Joined cells k history (seen_seat s) later → IsNumbered later
   numbered-later n (inl e) = subst IsNumbered (sym e) n
   numbered-later n (inr j) = subst IsNumbered (sym j.put) (numbered-push history _ n refl)
 
-  pub room-later : length history ≤ cells → (later ≡ history) ⊎ Joined cells history (seen_seat s) later → length later ≤ cells
+  pub room-later : length history ≤ cells → (later ≡ history) ⊎ Joined cells k history (seen_seat s) later → length later ≤ cells
   room-later h (inl e) = omega (arith, ap length e)
-  room-later h (inr j) = omega (arith, ap length j.put, length-append history ((record { seat = j.seat; number = count_of j.seat history; steps = j.steps }) ∷ []), j.room)
+  room-later h (inr j) = omega (arith, ap length j.put, length-append history ((record { seat = k; number = count_of k history; steps = j.steps }) ∷ []), j.room)
 
-  pub rests-later : (later ≡ history) ⊎ Joined cells history (seen_seat s) later → (seats : List SeatState) → All (Rests g history) seats → All (Rests g later) seats
+  pub rests-later : (later ≡ history) ⊎ Joined cells k history (seen_seat s) later → (seats : List SeatState) → All (Rests g history) seats → All (Rests g later) seats
   rests-later (inl e) seats h = subst (λ x. All (Rests g x) seats) (sym e) h
   rests-later (inr j) seats h = subst (λ x. All (Rests g x) seats) (sym j.put) (λ k d lt. rests-grown g history (get_or seats k d) _ (h k d lt))
+
+-- the counts after an event at the seat of the number k, which stands at the place i
+pub counted-later : (cells k i : ℕ) (history later : List Record) (seats : List SeatState) (s : SeatView) (t : SeatState) → i + 1 ≡ k
+    → (later ≡ history) ⊎ Joined cells k history s later → t.commits ≡ count_of k later → AreCounted history seats → AreCounted later (set seats i t)
+counted-later cells k i history later seats s t e grown now counted j x is = by (cases_lt i j) (cases_lt j i)
+  where
+    lt : j < length seats
+    lt = let w = slice_get_within (set seats i t) j x is in omega (arith, w, length-set seats i t)
+
+    read : get_or (set seats i t) j x ≡ x
+    read = get_or_from_slice_get (set seats i t) j x x is
+
+    here : j ≡ i → x.commits ≡ count_of (j + 1) later
+    here f =
+        let written : x ≡ t = sym read ∙ ap (λ n. get_or (set seats i t) n x) f ∙ get_or-set_same seats i t x (subst (λ n. n < length seats) f lt) in
+        let place : k ≡ j + 1 = omega (arith, e, f) in
+        ap (λ (y : SeatState). y.commits) written ∙ now ∙ ap (λ n. count_of n later) place
+
+    same : (k ≢ j + 1) → (later ≡ history) ⊎ Joined cells k history s later → count_of (j + 1) later ≡ count_of (j + 1) history
+    same f (inl e) = ap (count_of (j + 1)) e
+    same f (inr p) = ap (count_of (j + 1)) p.put ∙ count-other (j + 1) history (record { seat = k; number = count_of k history; steps = p.steps }) f
+
+    there : (j ≢ i) → x.commits ≡ count_of (j + 1) later
+    there f =
+        let kept : x ≡ get_or seats j x = sym read ∙ get_or-set_other seats i j t x f in
+        counted j x (slice_get_read seats (length seats) j x refl lt kept) ∙ sym (same (λ p. f (omega (arith, e, p))) grown)
+
+    by : (i < j) ⊎ (j ≤ i) → (j < i) ⊎ (i ≤ j) → x.commits ≡ count_of (j + 1) later
+    by (inl a) b = there (λ f. omega (arith, a, f))
+    by (inr a) (inl b) = there (λ f. omega (arith, b, f))
+    by (inr a) (inr b) = here (omega (arith, a, b))
+
+-- the same where nothing joined it
+pub counted-same : (k i : ℕ) (history : List Record) (seats : List SeatState) (s t : SeatState) → i + 1 ≡ k → i < length seats → s ≡ get_or seats i s → t.commits ≡ s.commits → AreCounted history seats → AreCounted history (set seats i t)
+counted-same k i history seats s t e lt is same counted =
+    counted-later 0 k i history history seats (seen_seat s) t e (inl refl)
+    (same ∙ counted i s (slice_get_read seats (length seats) i s refl lt is) ∙ ap (λ n. count_of n history) e) counted
 
 -- the next record that a seat has not taken in is true where the seat stands
 pub next_answers : (g : ProtectionGraph) (history : List Record) (s : SeatState) → IsLegal g history → Rests g history s → IfSome (slice_get history s.taken) (λ r. AreAnswers (graph_of s.graph) r.steps)
@@ -168,7 +206,28 @@ next_answers g history s l h = by (slice_get history s.taken) refl
     by None e = tt
     by (Some r) e = subst (λ k. AreAnswers k r.steps) (sym h.replayed) (legal-at g history s.taken r l e)
 
+-- ---- what holds of the world
+pub seats_within : (h : Inside) → All (Rests (graph_of h.opening) h.records.items) h.seats.items → TakeWithin (world_of h)
+seats_within h rests =
+    All-map (λ (s : SeatView). s.taken ≤ length h.records.items) seen_seat h.seats.items
+    (All-weaker (Rests (graph_of h.opening) h.records.items) (λ s. s.taken ≤ length h.records.items) (λ s r. r.within) h.seats.items rests)
+
+sessions_true : (h : Inside) (s : SeatState) → Rests (graph_of h.opening) h.records.items s → IsConsistent s → IfSome (seen_seat s).session (AreAnswers (rests_on (world_of h) (seen_seat s)))
+sessions_true h s rest sound = by s.session sound
+  where
+    by : (o : Option OpenSession) → IfSome o (IsSessionOn s.graph) → IfSome (option_map (λ (o : OpenSession). o.kept.items) o) (AreAnswers (rests_on (world_of h) (seen_seat s)))
+    by None on = tt
+    by (Some o) on = subst (λ g. AreAnswers g o.kept.items) rest.replayed on.answers
+
+pub seats_true : (h : Inside) → All (Rests (graph_of h.opening) h.records.items) h.seats.items → All IsConsistent h.seats.items → HoldTrue (world_of h)
+seats_true h rests sound =
+    All-map (λ (s : SeatView). IfSome s.session (AreAnswers (rests_on (world_of h) s))) seen_seat h.seats.items
+    (λ i d lt. sessions_true h (get_or h.seats.items i d) (rests i d lt) (sound i d lt))
+
 -- ---- seats at the start
+pub fresh_counts : (seats : List SeatState) → All (λ (s : SeatState). s.commits ≡ 0) seats → AreCounted [] seats
+fresh_counts seats h i s is = subst (λ (t : SeatState). t.commits ≡ 0) (get_or_from_slice_get seats i s s is) (h i s (slice_get_within seats i s is))
+
 pub replicate-push : {A : Type 0} (n : ℕ) (a : A) → replicate n a ++ a ∷ [] ≡ replicate (n + 1) a
 replicate-push n a = by n ∙ ap (λ k. replicate k a) (sym (add-one n))
   where

@@ -3,9 +3,9 @@ pub mod Told
 pub mod Agreement
 pub mod Crowds
 pub mod SeatLemmas
+pub mod Numbers
 pub mod HallLemmas
 pub mod RunLemmas
-pub mod Numbers
 pub mod Learning
 pub mod Weighed
 pub mod RunningSeats

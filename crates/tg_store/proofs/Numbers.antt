@@ -1,15 +1,32 @@
 -- Numbered records are apart.
-use Rattle.std.proofs.Common.{◌≡◌, ℕ, ◌+◌, ◌-◌, ◌<◌, ◌≤◌, ◌⊎◌, ◌++◌, ◌==◌, cond, List, take, drop, Some, refl, sym, ap, ◌∙◌, arith, inl, inr}
+use Rattle.std.proofs.Common.{◌≡◌, ◌≢◌, ℕ, ◌+◌, false, List, [], ◌∷◌, ◌-◌, ◌<◌, ◌≤◌, ◌⊎◌, ◌++◌, ◌==◌, cond, take, drop, Some, refl, sym, ap, ◌∙◌, arith, inl, inr}
 use Rattle.std.specs.Prelude.{slice_get}
 use Rattle.std.proofs.lemmas.Bool.{cases_lt, eq-eqb}
+use Rattle.std.proofs.lemmas.Bool.Decides.{nat_tests}
 use Rattle.std.proofs.lemmas.List.{take-append-drop, take-take}
 use Rattle.std.proofs.lemmas.List.Sums.{sum_by-append, count_by_more_yes}
 use Rattle.std.proofs.lemmas.Option.{slice_get_within, get_or_from_slice_get}
+use Rattle.tg_store.specs.declared.answers.Answered.{Answered}
 use Rattle.tg_store.specs.declared.records.Record.{Record}
 use Rattle.tg_store.specs.Histories.{count_of, IsNumbered, AreApart}
 
 count-append : (seat : ℕ) (xs ys : List Record) → count_of seat (xs ++ ys) ≡ count_of seat xs + count_of seat ys
 count-append seat xs ys = sum_by-append (λ (r : Record). cond (r.seat == seat) 1 0) xs ys
+
+-- a record of another seat is not counted
+pub count-other : (seat : ℕ) (history : List Record) (r : Record) → r.seat ≢ seat → count_of seat (history ++ r ∷ []) ≡ count_of seat history
+count-other seat history r other =
+    let test : (r.seat == seat) ≡ false = grind (arith, nat_tests) in
+    let one : cond (r.seat == seat) 1 0 ≡ 0 = ap (λ b. let n : ℕ = cond b 1 0 in n) test in
+    let both = count-append seat history (r ∷ []) in
+    omega (arith, both, one)
+
+-- one of the seat is
+pub count-own : (seat : ℕ) (history : List Record) (number : ℕ) (steps : List Answered) → count_of seat (history ++ (record { seat = seat; number = number; steps = steps }) ∷ []) ≡ count_of seat history + 1
+count-own seat history number steps =
+    let one : cond (seat == seat) 1 0 ≡ 1 = ap (λ b. let n : ℕ = cond b 1 0 in n) (eq-eqb seat seat refl) in
+    let both = count-append seat history ((record { seat = seat; number = number; steps = steps }) ∷ []) in
+    omega (arith, both, one)
 
 -- a longer part of a list has at least as many
 count-take : (seat : ℕ) (history : List Record) (i d : ℕ) → count_of seat (take i history) ≤ count_of seat (take (i + d) history)

@@ -8,12 +8,13 @@ use Rattle.std.specs.List.{IsDistinct}
 use Rattle.tg_graph.specs.Rows.{Entries}
 use Rattle.tg_graph.specs.Graphs.{ProtectionGraph}
 use Rattle.tg_graph.specs.GraphOf.{graph_of}
+use Rattle.tg_graph.specs.Limits.{most_vertices}
 use Rattle.tg_store.specs.declared.answers.Answered.{Answered}
 use Rattle.tg_store.specs.declared.records.Record.{Record}
 use Rattle.tg_store.specs.declared.seats.OpenSession.{OpenSession}
 use Rattle.tg_store.specs.declared.seats.SeatState.{SeatState}
 use Rattle.tg_store.specs.StepWords.{IsNamedStep}
-use Rattle.tg_store.specs.Answers.{most_vertices, IsAnswer, AreAnswers, after_step, after_steps}
+use Rattle.tg_store.specs.Answers.{IsAnswer, AreAnswers, after_step, after_steps}
 use Rattle.tg_store.specs.Histories.{replay}
 use Rattle.tg_store.specs.Touches.{IsClear, name_count, creates}
 use Rattle.tg_store.specs.Overlays.{laid_over}

@@ -5,8 +5,9 @@ use Rattle.std.specs.List.{IsDistinct}
 use Rattle.std.proofs.Math.Seq.{drop-cons}
 use Rattle.std.proofs.lemmas.List.{length-append}
 use Rattle.tg_graph.specs.Graphs.{Name, ProtectionGraph}
+use Rattle.tg_graph.specs.Limits.{most_vertices}
 use Rattle.tg_store.specs.declared.answers.Answered.{Answered}
-use Rattle.tg_store.specs.Answers.{most_vertices, AreAnswers, after_step, after_steps}
+use Rattle.tg_store.specs.Answers.{AreAnswers, after_step, after_steps}
 use Rattle.tg_store.specs.Touches.{touches, step_writes, writes, creates, spoiler, name_count, IsCrowded}
 use Rattle.tg_store.specs.Told.{tells_creation}
 use Rattle.tg_store.proofs.Agreement.{vertices-steps}

@@ -1,5 +1,5 @@
 -- What a step of a session answers, and the graph after it.
-use Rattle.std.specs.Prelude.{◌≡◌, ℕ, nat_le, if◌then◌else◌, List, [], ◌∷◌, length, Option, None, Some, is_none, ⊤}
+use Rattle.std.specs.Prelude.{◌≡◌, nat_le, if◌then◌else◌, List, [], ◌∷◌, length, Option, None, Some, is_none, ⊤}
 use Rattle.tg_graph.specs.declared.rules.Rule.{Rule}
 use Rattle.tg_graph.specs.declared.rules.Rule.TheVariants.{Take, Grant, Create, Remove}
 use Rattle.tg_graph.specs.declared.rules.Refusal.{Refusal}
@@ -9,13 +9,10 @@ use Rattle.tg_graph.specs.declared.session.Step.TheVariants.{Do, Holds, Share}
 use Rattle.tg_graph.specs.declared.session.Reply.{Reply}
 use Rattle.tg_graph.specs.declared.session.Reply.TheVariants.{Done, Yes, No, Refused}
 use Rattle.tg_graph.specs.Graphs.{Name, ProtectionGraph}
+use Rattle.tg_graph.specs.Limits.{most_vertices}
 use Rattle.tg_graph.specs.Rules.{refusal_of, after, unknown}
 use Rattle.tg_graph.specs.RuleLists.{CanShare}
 use Rattle.tg_store.specs.declared.answers.Answered.{Answered}
-
--- how many vertices a session's graph may have
-abbrev pub most_vertices : ℕ
-most_vertices = 1024
 
 -- why a rule that is not refused is refused in a session: it has no room for a vertex
 abbrev pub lack_of_room : ProtectionGraph → Rule → Option Refusal

@@ -1,10 +1,11 @@
 -- The fields of a hall, and what is true of them.
 use Rattle.std.specs.Prelude.{◌≤◌, map, length, All}
 use Rattle.tg_graph.specs.GraphOf.{graph_of}
+use Rattle.tg_graph.specs.Limits.{most_cells}
 use Rattle.tg_store.specs.declared.halls.Hall.TheInside.{Inside}
 use Rattle.tg_store.specs.Histories.{IsLegal, IsNumbered}
-use Rattle.tg_store.specs.Worlds.{World, most_cells}
-use Rattle.tg_store.specs.Seats.{seen_seat, IsConsistent, Rests}
+use Rattle.tg_store.specs.Worlds.{World}
+use Rattle.tg_store.specs.Seats.{seen_seat, IsConsistent, Rests, AreCounted}
 
 abbrev pub world_of : Inside → World
 world_of h = record { opening = h.opening; cells = h.cells; history = h.records.items; seats = map seen_seat h.seats.items }
@@ -16,3 +17,4 @@ pub record IsHall (h : Inside) : Type 0 where
   pub numbered : IsNumbered h.records.items
   pub rests : All (Rests (graph_of h.opening) h.records.items) h.seats.items
   pub consistent : All IsConsistent h.seats.items
+  pub counted : AreCounted h.records.items h.seats.items

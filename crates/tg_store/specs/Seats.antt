@@ -1,5 +1,5 @@
 -- The fields of a seat, and what is true of them.
-use Rattle.std.specs.Prelude.{◌≡◌, ◌≤◌, ◌<◌, ◌+◌, ℕ, ⊤, List, [], ◌∷◌, drop, All, IfSome, take, length, Option, None, Some}
+use Rattle.std.specs.Prelude.{slice_get, ◌≡◌, ◌≤◌, ◌<◌, ◌+◌, ℕ, ⊤, List, [], ◌∷◌, drop, All, IfSome, take, length, Option, None, Some}
 use Rattle.std.specs.Option.{option_map}
 use Rattle.tg_graph.specs.Rows.{Entries}
 use Rattle.tg_graph.specs.Graphs.{ProtectionGraph}
@@ -16,7 +16,7 @@ use Rattle.tg_store.specs.declared.events.HallReply.TheVariants as reply
 use Rattle.tg_store.specs.Touches.{IsClear, IsSpoilt, IsOvercrowded}
 use Rattle.tg_store.specs.StepWords.{IsNamedStep}
 use Rattle.tg_store.specs.Answers.{AreAnswers, after_steps}
-use Rattle.tg_store.specs.Histories.{replay}
+use Rattle.tg_store.specs.Histories.{replay, count_of}
 use Rattle.tg_store.specs.Overlays.{laid_over}
 use Rattle.tg_store.specs.Worlds.{SeatView}
 
@@ -38,6 +38,10 @@ IsConsistent s = IfSome s.session (IsSessionOn s.graph)
 pub record Rests (g : ProtectionGraph) (history : List Record) (s : SeatState) : Type 0 where
   pub within : s.taken ≤ length history
   pub replayed : graph_of s.graph ≡ replay g (take s.taken history)
+
+-- each seat has as its count how many records of the history are its own
+abbrev pub AreCounted : List Record → List SeatState → Type 0
+AreCounted history seats = (i : ℕ) (s : SeatState) → slice_get seats i ≡ Some s → s.commits ≡ count_of (i + 1) history
 
 -- what keeps a session from resting on a record with these steps as well, if anything does
 abbrev pub Obstructs : ProtectionGraph → List Answered → SeatView → Option HallFault → Type 0

@@ -9,8 +9,9 @@ use Rattle.tg_graph.specs.declared.session.Step.TheVariants.{Do, Holds, Share}
 use Rattle.tg_graph.specs.declared.session.Reply.{Reply}
 use Rattle.tg_graph.specs.declared.session.Reply.TheVariants.{Done, Yes, No, Refused}
 use Rattle.tg_graph.specs.Graphs.{Name, ProtectionGraph, same_name}
+use Rattle.tg_graph.specs.Limits.{most_vertices}
 use Rattle.tg_store.specs.declared.answers.Answered.{Answered}
-use Rattle.tg_store.specs.Answers.{most_vertices, session_refusal, after_step, after_steps}
+use Rattle.tg_store.specs.Answers.{session_refusal, after_step, after_steps}
 
 -- the names that an accepted rule writes, in their order
 abbrev pub written_by : Rule → List Name

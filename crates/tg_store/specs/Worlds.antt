@@ -1,9 +1,10 @@
 -- The world of a hall: what each event may answer, and the world after it.
-use Rattle.std.specs.Prelude.{◌≡◌, ℕ, ◌+◌, ◌-◌, ◌<◌, ◌==◌, if◌then◌else◌, List, [], ◌∷◌, ◌++◌, length, take, slice_get, slice_set, Option, None, Some, MatchOption, Result, Ok, Err, ⊤, ◌&&◌, nat_lt, nat_le, replicate}
+use Rattle.std.specs.Prelude.{◌≡◌, ℕ, ◌+◌, ◌-◌, ◌<◌, ◌≤◌, ◌==◌, All, IfSome, if◌then◌else◌, List, [], ◌∷◌, ◌++◌, length, take, slice_get, slice_set, Option, None, Some, MatchOption, Result, Ok, Err, ⊤, ◌&&◌, nat_lt, nat_le, replicate}
 use Rattle.tg_graph.specs.declared.session.Step.{Step}
 use Rattle.tg_graph.specs.Graphs.{ProtectionGraph}
 use Rattle.tg_graph.specs.Rows.{Entries}
 use Rattle.tg_graph.specs.GraphOf.{graph_of}
+use Rattle.tg_graph.specs.Limits.{most_vertices, most_cells, most_seats}
 use Rattle.tg_store.specs.declared.answers.Answered.{Answered}
 use Rattle.tg_store.specs.declared.records.Record.{Record}
 use Rattle.tg_store.specs.declared.events.Event.{Event}
@@ -14,7 +15,7 @@ use Rattle.tg_store.specs.declared.events.HallFault.TheVariants.{NoSeat, Already
 use Rattle.tg_store.specs.declared.events.StoreFault.{StoreFault}
 use Rattle.tg_store.specs.declared.events.StoreFault.TheVariants as fault
 use Rattle.tg_store.specs.StepWords.{IsNamedStep}
-use Rattle.tg_store.specs.Answers.{most_vertices, IsAnswer, after_steps}
+use Rattle.tg_store.specs.Answers.{IsAnswer, AreAnswers, after_steps}
 use Rattle.tg_store.specs.Histories.{replay, count_of}
 use Rattle.tg_store.specs.Touches.{IsClear, IsSpoilt, IsOvercrowded}
 
@@ -30,11 +31,9 @@ pub record World : Type 0 where
   pub history : List Record
   pub seats : List SeatView
 
-abbrev pub most_cells : ℕ
-most_cells = 4096
-
-abbrev pub most_seats : ℕ
-most_seats = 64
+-- each seat has taken in no more than there is
+abbrev pub TakeWithin : World → Type 0
+TakeWithin w = All (λ (s : SeatView). s.taken ≤ length w.history) w.seats
 
 -- the seat of a number
 abbrev pub seat_of : World → ℕ → Option SeatView
@@ -43,6 +42,10 @@ seat_of w k = if k == 0 then None else slice_get w.seats (k - 1)
 -- the graph of what the seat has taken in
 abbrev pub rests_on : World → SeatView → ProtectionGraph
 rests_on w s = replay (graph_of w.opening) (take s.taken w.history)
+
+-- the replies of each open session are true on the graph that its seat rests on
+abbrev pub HoldTrue : World → Type 0
+HoldTrue w = All (λ (s : SeatView). IfSome s.session (AreAnswers (rests_on w s))) w.seats
 
 abbrev pub with_session : SeatView → Option (List Answered) → SeatView
 with_session s session = record { taken = s.taken; session = session }

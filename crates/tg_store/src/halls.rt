@@ -3,9 +3,10 @@ ghost use Rattle.std.specs.Prelude.{◌≡◌, ◌+◌, ◌<◌, ◌≤◌, ◌�
 ghost use Rattle.std.specs.Option.{option_map, option_copied};
 ghost use Rattle.tg_graph.specs.Graphs.{ProtectionGraph};
 ghost use Rattle.tg_graph.specs.GraphOf.{graph_of};
+ghost use Rattle.tg_graph.specs.Limits.{most_cells};
 ghost use Rattle.tg_store.specs.Answers.{AreAnswers};
-ghost use Rattle.tg_store.specs.Histories.{replay, IsLegal, IsNumbered, AreApart};
-ghost use Rattle.tg_store.specs.Worlds.{fresh_seat, seat_of, seat_in, rests_on, Moves, Happens, Run, IsStageable, OpensHall};
+ghost use Rattle.tg_store.specs.Histories.{replay, count_of, IsLegal, IsNumbered, AreApart};
+ghost use Rattle.tg_store.specs.Worlds.{fresh_seat, seat_of, seat_in, rests_on, TakeWithin, HoldTrue, Moves, Happens, Run, IsStageable, OpensHall};
 ghost use Rattle.tg_store.specs.Acts.{is_learned, is_free, MayLearn, OnlyLearns, Repeats, CatchesUp, Acts, IsStageableAct};
 ghost use Rattle.std.specs.Vec.{vec_capacity};
 ghost use Rattle.tg_store.specs.Seats.{seen_seat, IsConsistent, Rests};
@@ -13,17 +14,10 @@ ghost use Rattle.tg_store.specs.Seats.{seen_seat, IsConsistent, Rests};
 use crate::events::{Event, HallFault, HallReply, StoreFault};
 use crate::records::Record;
 use crate::replays;
-use crate::replays::MOST_VERTICES;
 use crate::seats::SeatState;
 use std::alloc::{AllocError, Global};
 use std::marker::Model;
-use tg_graph::{Act, Graph, Refusal, Reply};
-
-/// How many cells a journal may have.
-pub const MOST_CELLS: usize = 4096;
-
-/// How many seats there may be.
-pub const MOST_SEATS: u32 = 64;
+use tg_graph::{Act, Graph, MOST_CELLS, MOST_SEATS, MOST_VERTICES, Refusal, Reply};
 
 /// A monitor in one thread: a history of committed sessions, and seats that take it in.
 ///
@@ -53,6 +47,7 @@ impl Model for Hall {
 fn fresh_seats(alloc: Global, opening: &Graph, count: u32) -> Result<Vec<SeatState>, AllocError>
     ensures seen { IfOk result (λ seats. map seen_seat seats.items ≡ replicate count fresh_seat) }
     ensures rests { IfOk result (λ seats. All (Rests (graph_of opening.now) []) seats.items) }
+    ensures fresh { IfOk result (λ seats. All (λ seat. seat.commits ≡ 0) seats.items) }
     ensures consistent { IfOk result (λ seats. All IsConsistent seats.items) }
 {
     let mut seats = Vec::new(alloc);
@@ -99,11 +94,13 @@ fn event_at(
     requires consistent { IsConsistent seat.old }
     requires answers { IfSome (slice_get records.old.items seat.old.taken) (λ r. AreAnswers (graph_of seat.old.graph) r.steps) }
     requires room { length records.old.items ≤ cells }
-    requires cells { cells ≤ 4096 }
+    requires cells { cells ≤ most_cells }
     requires within { seat.old.taken ≤ length records.old.items }
+    requires counted { seat.old.commits ≡ count_of (seat_in event.now) records.old.items }
     ensures moves { Moves (graph_of seat.old.graph) cells records.old.items (seen_seat seat.old) event.now result (seen_seat seat.new) records.new.items }
     ensures rests { (g : ProtectionGraph) → Rests g records.old.items seat.old → Rests g records.new.items seat.new }
     ensures consistent { IsConsistent seat.new }
+    ensures counted { seat.new.commits ≡ count_of (seat_in event.now) records.new.items }
 {
     match *event {
         Event::Begin(_) => seat.begin(),
@@ -172,6 +169,9 @@ impl Hall {
         ensures legal { IsLegal (graph_of self.now.opening) self.now.history }
         ensures numbered { IsNumbered self.now.history }
         ensures apart { AreApart self.now.history }
+        ensures within { length self.now.history ≤ self.now.cells }
+        ensures taken { TakeWithin self.now }
+        ensures sessions { HoldTrue self.now }
     {
         self.records.len()
     }
@@ -249,6 +249,7 @@ impl Hall {
             let reply = self.happen(event);
             note(&mut replies, reply);
         }
+        // `len` says that the history is legal
         let _ = self.len();
         Ok(replies)
     }

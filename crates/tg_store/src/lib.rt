@@ -1,22 +1,26 @@
 //! A monitor in one thread: seats that take in one history of committed sessions.
 #![tactic(auto)]
 
-pub mod answers;
-pub mod events;
-pub mod halls;
+#[cfg(test)]
+mod answer_tests;
+mod answers;
+mod events;
+mod halls;
 #[cfg(test)]
 mod memory_tests;
-pub mod outcomes;
+mod outcomes;
 mod overlays;
-pub mod records;
+mod records;
 mod replays;
-pub mod running_seats;
-pub mod running_sessions;
+mod running_seats;
+mod running_sessions;
 mod seats;
 mod spoilers;
 #[cfg(test)]
 mod store_tests;
-pub mod stores;
+mod stores;
+#[cfg(test)]
+mod test_helpers;
 #[cfg(test)]
 mod tests;
 mod weighing;

@@ -10,11 +10,8 @@ ghost use Rattle.tg_store.specs.Answers.{lack_of_room, session_refusal, IsAnswer
 use crate::answers::Answered;
 use crate::records::Record;
 use std::alloc::{AllocError, Global};
-use tg_analysis::can_share;
-use tg_graph::{Graph, Name, Refusal, Reply, Right, Rule, RuleFault, Step};
-
-/// How many vertices a session's graph may have.
-pub const MOST_VERTICES: usize = 1024;
+use tg_analysis::{AskFault, can_share};
+use tg_graph::{Graph, MOST_VERTICES, Name, Refusal, Reply, Right, Rule, RuleFault, Step};
 
 // Whether the rule would create a vertex for which there is no room.
 fn lacks_room(graph: &Graph, rule: &Rule) -> bool
@@ -100,7 +97,8 @@ pub fn answer_share(
     match can_share(alloc, graph, right, x, y) {
         Ok(true) => Ok(Reply::Yes),
         Ok(false) => Ok(Reply::No),
-        Err(_) => Err(AllocError),
+        // both names are vertices, so only memory can be wanting
+        Err(AskFault::Unknown(_) | AskFault::TooLarge | AskFault::Memory) => Err(AllocError),
     }
 }
 

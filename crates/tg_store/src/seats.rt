@@ -3,6 +3,7 @@ ghost use Rattle.std.specs.Prelude.{◌≡◌, ◌<◌, ◌≤◌, ◌∷◌, �
 ghost use Rattle.std.specs.Vec.{vec_capacity};
 ghost use Rattle.tg_graph.specs.Graphs.{ProtectionGraph};
 ghost use Rattle.tg_graph.specs.GraphOf.{graph_of};
+ghost use Rattle.tg_graph.specs.Limits.{most_cells};
 ghost use Rattle.tg_store.specs.declared.records.Record.{Record};
 ghost use Rattle.tg_store.specs.StepWords.{IsNamedStep};
 ghost use Rattle.tg_store.specs.Answers.{IsAnswer, AreAnswers, after_steps};
@@ -26,11 +27,13 @@ pub struct OpenSession {
     pub(crate) kept: Vec<Answered>,
 }
 
-/// A seat: how many records it has taken in, the graph that they lead to, and its open session.
+/// A seat: how many records it has taken in, the graph that they lead to, how many sessions it has committed, and its
+/// open session.
 #[derive(Drop)]
 pub struct SeatState {
     taken: usize,
     graph: Graph,
+    commits: usize,
     session: Option<OpenSession>,
     alloc: Global,
 }
@@ -119,10 +122,12 @@ impl SeatState {
         ensures graph { IfOk result (λ seat. seat.graph ≡ opening.now) }
         ensures seen { IfOk result (λ seat. seen_seat seat ≡ fresh_seat) }
         ensures consistent { IfOk result IsConsistent }
+        ensures fresh { IfOk result (λ seat. seat.commits ≡ 0) }
     {
         Ok(SeatState {
             taken: 0,
             graph: opening.copy()?,
+            commits: 0,
             session: None,
             alloc,
         })
@@ -155,6 +160,7 @@ impl SeatState {
         ensures begins { Begins (seen_seat self.old) result (seen_seat self.new) }
         ensures graph { self.new.graph ≡ self.old.graph }
         ensures consistent { IsConsistent self.new }
+        ensures commits { self.new.commits ≡ self.old.commits }
     {
         if self.session.is_some() {
             return HallReply::Refused(HallFault::AlreadyOpen);
@@ -165,7 +171,7 @@ impl SeatState {
                 self.session = Some(OpenSession { overlay, kept });
                 HallReply::Done
             }
-            Err(_) => HallReply::Refused(HallFault::Memory),
+            Err(AllocError) => HallReply::Refused(HallFault::Memory),
         }
     }
 
@@ -175,6 +181,7 @@ impl SeatState {
         ensures aborts { Aborts (seen_seat self.old) result (seen_seat self.new) }
         ensures graph { self.new.graph ≡ self.old.graph }
         ensures consistent { IsConsistent self.new }
+        ensures commits { self.new.commits ≡ self.old.commits }
     {
         if self.session.is_none() {
             return HallReply::Refused(HallFault::NotOpen);
@@ -190,12 +197,13 @@ impl SeatState {
         ensures stages { Stages (graph_of self.old.graph) step (seen_seat self.old) result (seen_seat self.new) }
         ensures graph { self.new.graph ≡ self.old.graph }
         ensures consistent { IsConsistent self.new }
+        ensures commits { self.new.commits ≡ self.old.commits }
     {
         match &mut self.session {
             None => HallReply::Refused(HallFault::NotOpen),
             Some(session) => match session.stage(&self.graph, &step) {
                 Ok(reply) => HallReply::Said(reply),
-                Err(_) => HallReply::Refused(HallFault::Memory),
+                Err(AllocError) => HallReply::Refused(HallFault::Memory),
             },
         }
     }
@@ -230,6 +238,7 @@ impl SeatState {
         ensures err { OnErr result (self.new.graph ≡ self.old.graph) }
         ensures seen { seen_seat self.new ≡ seen_seat self.old }
         ensures consistent { IsConsistent self.new }
+        ensures commits { self.new.commits ≡ self.old.commits }
     {
         let _ = self.graph.len();
         let graph = replays::copy_with(&self.graph, committed)?;
@@ -245,11 +254,12 @@ impl SeatState {
         requires consistent { IsConsistent self.old }
         requires answers { AreAnswers (graph_of self.old.graph) next.now.steps }
         requires clear { IsClear (graph_of self.old.graph) next.now.steps (seen_seat self.old).session }
-        requires room { self.old.taken < 4096 }
+        requires room { self.old.taken < most_cells }
         ensures graph { OnOk result (graph_of self.new.graph ≡ after_steps (graph_of self.old.graph) next.now.steps) }
         ensures seen { OnOk result (seen_seat self.new ≡ one_further (seen_seat self.old)) }
         ensures err { OnErr result ((self.new.graph ≡ self.old.graph) × (seen_seat self.new ≡ seen_seat self.old)) }
         ensures consistent { IsConsistent self.new }
+        ensures commits { self.new.commits ≡ self.old.commits }
     {
         let committed = next.steps.as_slice();
         if spoilers::has_change(committed) {
@@ -263,11 +273,12 @@ impl SeatState {
     fn take_in(&mut self, next: &Record) -> HallReply
         requires consistent { IsConsistent self.old }
         requires answers { AreAnswers (graph_of self.old.graph) next.now.steps }
-        requires room { self.old.taken < 4096 }
+        requires room { self.old.taken < most_cells }
         ensures takes { TakesIn (graph_of self.old.graph) next.now (seen_seat self.old) result (seen_seat self.new) }
         ensures rests { (g : ProtectionGraph) (history : List Record) → slice_get history self.old.taken ≡ Some next.now
             → Rests g history self.old → Rests g history self.new }
         ensures consistent { IsConsistent self.new }
+        ensures commits { self.new.commits ≡ self.old.commits }
     {
         if let Some(fault) = self.obstacle(next) {
             self.session = None;
@@ -276,7 +287,7 @@ impl SeatState {
         let place = self.taken;
         match self.advance(next) {
             Ok(()) => HallReply::Learned(place),
-            Err(_) => HallReply::Refused(HallFault::Memory),
+            Err(AllocError) => HallReply::Refused(HallFault::Memory),
         }
     }
 
@@ -284,10 +295,11 @@ impl SeatState {
     pub fn learn(&mut self, records: &[Record]) -> HallReply
         requires consistent { IsConsistent self.old }
         requires answers { IfSome (slice_get records.now self.old.taken) (λ r. AreAnswers (graph_of self.old.graph) r.steps) }
-        requires room { length records.now ≤ 4096 }
+        requires room { length records.now ≤ most_cells }
         ensures learns { Learns (graph_of self.old.graph) (slice_get records.now self.old.taken) (seen_seat self.old) result (seen_seat self.new) }
         ensures rests { (g : ProtectionGraph) → Rests g records.now self.old → Rests g records.now self.new }
         ensures consistent { IsConsistent self.new }
+        ensures commits { self.new.commits ≡ self.old.commits }
     {
         if self.taken < records.len() {
             self.take_in(&records[self.taken])
@@ -303,6 +315,7 @@ impl SeatState {
         ensures takes { TakesAll (length records.now) (seen_seat self.old) result (seen_seat self.new) }
         ensures rests { (g : ProtectionGraph) → Rests g records.now self.old → Rests g records.now self.new }
         ensures consistent { IsConsistent self.new }
+        ensures commits { self.new.commits ≡ self.old.commits }
     {
         if self.taken == records.len() {
             return HallReply::Nothing;
@@ -313,7 +326,7 @@ impl SeatState {
                 self.taken = records.len();
                 HallReply::Nothing
             }
-            Err(_) => HallReply::Refused(HallFault::Memory),
+            Err(AllocError) => HallReply::Refused(HallFault::Memory),
         }
     }
 
@@ -348,6 +361,7 @@ impl SeatState {
         ensures keeps { KeepsUp (graph_of self.old.graph) records.now (seen_seat self.old) (seen_seat self.new) }
         ensures rests { (g : ProtectionGraph) → Rests g records.now self.old → Rests g records.now self.new }
         ensures consistent { IsConsistent self.new }
+        ensures commits { self.new.commits ≡ self.old.commits }
     {
         let Some((graph, overlay, count)) = self.further(records) else {
             return;
@@ -362,29 +376,31 @@ impl SeatState {
     // Puts the open session at the end of the history.
     fn join(&mut self, number: u32, cells: usize, records: &mut Vec<Record>) -> HallReply
         requires consistent { IsConsistent self.old }
+        requires counted { self.old.commits ≡ count_of number records.old.items }
         requires open { IsSome self.old.session }
         requires room { length records.old.items < cells }
-        requires cells { cells ≤ 4096 }
+        requires cells { cells ≤ most_cells }
         requires all_taken { self.old.taken ≡ length records.old.items }
         ensures joins { IfSome (seen_seat self.old).session (λ steps.
             Joins cells number records.old.items steps (seen_seat self.old) result (seen_seat self.new) records.new.items) }
         ensures rests { (g : ProtectionGraph) → Rests g records.old.items self.old → Rests g records.new.items self.new }
         ensures consistent { IsConsistent self.new }
+        ensures counted { self.new.commits ≡ count_of number records.new.items }
     {
         if records.reserve(1).is_err() {
             return HallReply::Refused(HallFault::Memory);
         }
         let place = records.len();
-        let count = commit_count(number, records.as_slice());
         if let Some(session) = self.session.take() {
             let OpenSession { overlay, kept } = session;
             self.graph = overlay.into_whole(&self.graph);
             records.push_reserved(Record {
                 seat: number,
-                number: count,
+                number: self.commits,
                 steps: Steps::from_vec(kept),
             });
             self.taken += 1;
+            self.commits += 1;
         }
         HallReply::Put(place)
     }
@@ -392,13 +408,15 @@ impl SeatState {
     /// Puts the open session at the end of the history, or takes in the next record where one is left.
     pub fn put(&mut self, number: u32, cells: usize, records: &mut Vec<Record>) -> HallReply
         requires consistent { IsConsistent self.old }
+        requires counted { self.old.commits ≡ count_of number records.old.items }
         requires answers { IfSome (slice_get records.old.items self.old.taken) (λ r. AreAnswers (graph_of self.old.graph) r.steps) }
         requires room { length records.old.items ≤ cells }
-        requires cells { cells ≤ 4096 }
+        requires cells { cells ≤ most_cells }
         requires within { self.old.taken ≤ length records.old.items }
         ensures puts { Puts (graph_of self.old.graph) cells number records.old.items (seen_seat self.old) result (seen_seat self.new) records.new.items }
         ensures rests { (g : ProtectionGraph) → Rests g records.old.items self.old → Rests g records.new.items self.new }
         ensures consistent { IsConsistent self.new }
+        ensures counted { self.new.commits ≡ count_of number records.new.items }
     {
         if self.session.is_none() {
             return HallReply::Refused(HallFault::NotOpen);
@@ -412,14 +430,4 @@ impl SeatState {
         }
         self.join(number, cells, records)
     }
-}
-
-// How many records are of the seat.
-fn commit_count(number: u32, records: &[Record]) -> usize
-    ensures { result ≡ count_of number records.now }
-{
-    records
-        .iter()
-        .filter(|record| record.seat == number)
-        .count()
 }

@@ -7,8 +7,7 @@ ghost use Rattle.tg_store.specs.Touches.{step_touches, reply_touches, touches, s
 ghost use Rattle.tg_store.specs.Told.{is_done, told_writes, all_told_writes, tells_creation, tells_change};
 
 use crate::answers::Answered;
-use crate::replays::MOST_VERTICES;
-use tg_graph::{Graph, Name, Refusal, Reply, Rule, Step};
+use tg_graph::{Graph, MOST_VERTICES, Name, Refusal, Reply, Rule, Step};
 
 // Whether a step touches a name, accepted or refused.
 fn step_touches(step: &Step, name: Name) -> bool
@@ -98,6 +97,7 @@ pub fn spoiler(graph: &Graph, committed: &[Answered], session: &[Answered]) -> O
     requires { AreAnswers (graph_of graph.now) committed.now }
     ensures { result ≡ spoiler (graph_of graph.now) committed.now session.now }
 {
+    // the replies tell what was written; only the contract speaks of the graph
     let _ = graph;
     told_spoiler(committed, session)
 }

@@ -15,13 +15,12 @@ ghost use Rattle.tg_store.specs.Agreed.{has_number, AreOfSeats, AreAgreed};
 use crate::events::StoreFault;
 use crate::outcomes::{BeginFault, Begun, Committed, StoreMeetFault};
 use crate::records::Record;
-use crate::replays::MOST_VERTICES;
 use crate::running_seats::Seat;
 use crate::running_sessions::Session;
 use std::alloc::{AllocError, Global};
 use std::marker::Model;
 use std::sync::Arc;
-use tg_graph::Graph;
+use tg_graph::{Graph, MOST_VERTICES};
 use tg_journal::{Front, Journal, JournalFault, Pass};
 
 /// A monitor for running threads: a journal that they fill together, and a seat for each of them.

@@ -1,18 +1,18 @@
 //! A record that a session comes upon, of which it is not known whether it is true.
 ghost use Rattle.std.specs.Prelude.{◌≡◌, ◌↔◌, ◌<◌, ◌+◌, All, IsTrue, IfOk, OnOk, None, find, length, count_by};
 ghost use Rattle.tg_graph.specs.GraphOf.{graph_of};
+ghost use Rattle.tg_graph.specs.Limits.{most_vertices};
 ghost use Rattle.tg_store.specs.StepWords.{IsNamedStep};
-ghost use Rattle.tg_store.specs.Answers.{most_vertices, AreAnswers, after_step, after_steps};
+ghost use Rattle.tg_store.specs.Answers.{AreAnswers, after_step, after_steps};
 ghost use Rattle.tg_store.specs.Touches.{touches, step_writes, spoiler};
 ghost use Rattle.tg_store.specs.Told.{tells_creation};
 ghost use Rattle.tg_store.specs.Weighing.{Weighs};
 
 use crate::answers::Answered;
 use crate::outcomes::CommitFault;
-use crate::replays::MOST_VERTICES;
 use crate::{replays, spoilers};
 use std::alloc::AllocError;
-use tg_graph::{Graph, Name, Step};
+use tg_graph::{Graph, MOST_VERTICES, Name, Step};
 
 /// What a record is to a session.
 #[derive(Drop)]

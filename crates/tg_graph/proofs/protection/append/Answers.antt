@@ -1,5 +1,4 @@
-use Rattle.std.proofs.Common.{◌∙◌, bytes_eq, []}
-use Rattle.indexmap.specs.IndexMap.{insert_entry}
+use Rattle.std.proofs.Common.{◌∙◌, bytes_eq}
 use Rattle.indexmap.proofs.CallerLemmas.{insert_entry-new}
 use Rattle.tg_graph.proofs.Rows.{on_ok-is}
 use Rattle.tg_graph.proofs.Graphs.{none_from_unknown}
@@ -9,5 +8,4 @@ pub returns : goal.returns
 returns c =
     let es = c.args.rows.now.entries in
     on_ok-is c.insert.result (c.insert.ensures.succeeds c.requires.room) c.insert.ensures.entries
-    ∙ (λ i. insert_entry bytes_eq es c.args.n (c.new.ensures i))
-    ∙ insert_entry-new bytes_eq c.args.rows.now c.args.n [] (none_from_unknown es c.args.n c.requires.fresh)
+    ∙ insert_entry-new bytes_eq c.args.rows.now c.args.n c.args.row (none_from_unknown es c.args.n c.requires.fresh)

@@ -2,6 +2,7 @@ use Rattle.std.proofs.Common.{◌≡◌, ◌++◌, ◌∷◌, [], map, take, sym
 use Rattle.std.proofs.lemmas.List.{map-append}
 use Rattle.std.proofs.lemmas.List.Elements.{All-push}
 use Rattle.tg_graph.specs.GraphOf.{graph_of}
+use Rattle.tg_store.specs.declared.seats.SeatState.{SeatState}
 use Rattle.tg_store.specs.Histories.{replay}
 use Rattle.tg_store.specs.Worlds.{SeatView, fresh_seat}
 use Rattle.tg_store.specs.Seats.{seen_seat, IsConsistent, Rests}
@@ -22,4 +23,5 @@ loop-made-preserved c =
           ∙ (λ i. c.loop-made.invariant.seen i ++ c.in_ok-seat.ensures.seen i ∷ []) ∙ replicate-push c.loop-made.made fresh_seat;
       rests = subst (All (Rests g [])) (sym made) (All-push (Rests g []) old seat c.loop-made.invariant.rests rest);
       consistent = subst (All IsConsistent) (sym made) (All-push IsConsistent old seat c.loop-made.invariant.consistent c.in_ok-seat.ensures.consistent);
+      fresh = subst (All (λ (s : SeatState). s.commits ≡ 0)) (sym made) (All-push (λ (s : SeatState). s.commits ≡ 0) old seat c.loop-made.invariant.fresh c.in_ok-seat.ensures.fresh);
     }

@@ -1,8 +1,9 @@
 use Rattle.std.proofs.Common.{◌≤◌, ◌++◌, Some, take, length, refl, sym, ap, subst, ◌∙◌, arith}
 use Rattle.std.proofs.lemmas.Option.{slice_get_read}
 use Rattle.tg_graph.specs.GraphOf.{graph_of}
+use Rattle.tg_graph.specs.Limits.{most_vertices}
 use Rattle.tg_store.specs.declared.records.Record.{Record}
-use Rattle.tg_store.specs.Answers.{most_vertices, AreAnswers, after_steps}
+use Rattle.tg_store.specs.Answers.{AreAnswers, after_steps}
 use Rattle.tg_store.specs.Histories.{replay}
 use Rattle.tg_store.specs.Touches.{IsClear, name_count, creates}
 use Rattle.tg_store.proofs.Ordered.{legal-at, replay-next}

@@ -8,11 +8,11 @@ pub invariant_of-self-2 : goal.invariant_of-self-2
 invariant_of-self-2 c =
     let n = c.args.n in
     let same = c.in_ok-reserve.ensures.entries in
-    subst IsGraph (sym (c.append.ensures ∙ ap (λ es. es ++ (n, []) ∷ []) same))
+    subst IsGraph (sym (c.append.ensures ∙ (λ i. same i ++ (n, c.in_ok-row.ensures i) ∷ [])))
     (is_graph-new_vertex n c.self.inside.rows.entries c.self.invariant (ap (λ es. is_known es n) c.self.view_is ∙ sym c.knows.ensures ∙ c.if-knows.false) c.as_bytes.ensures.valid)
 
 pub returns-clause-added : goal.returns-clause-added
 returns-clause-added c =
     let n = c.args.n in
     let same = c.in_ok-reserve.ensures.entries in
-    (sym c.knows.ensures ∙ c.if-knows.false, ap graph_of (c.append.ensures ∙ ap (λ es. es ++ (n, []) ∷ []) (same ∙ c.self.view_is)) ∙ graph-pushed n c.args.self.now)
+    (sym c.knows.ensures ∙ c.if-knows.false, ap graph_of (c.append.ensures ∙ (λ i. (same ∙ c.self.view_is) i ++ (n, c.in_ok-row.ensures i) ∷ [])) ∙ graph-pushed n c.args.self.now)

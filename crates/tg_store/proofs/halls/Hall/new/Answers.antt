@@ -1,9 +1,22 @@
-use Rattle.std.proofs.Common.{sym, ap, subst, ◌∙◌, arith, Err}
+use Rattle.std.proofs.Common.{rules, [], sym, ap, subst, ◌∙◌, arith, Err}
 use Rattle.std.proofs.lemmas.Bool.Decides.{nat_tests}
 use Rattle.std.proofs.lemmas.List.{length-map}
 use Rattle.std.proofs.lemmas.Result.{err_from_is_err_and}
 use Rattle.tg_store.specs.Worlds.{OpensHall}
+use Rattle.tg_store.specs.Seats.{AreCounted}
+use Rattle.tg_store.proofs.HallLemmas.{fresh_counts}
 use Rattle.tg_store.proofs.halls.Hall.new.Goals as goal
+
+pub invariant_of-result : goal.invariant_of-result
+invariant_of-result c = record {
+  cells = search rules;
+  room = search rules;
+  legal = search rules;
+  numbered = search rules;
+  rests = search rules;
+  consistent = search rules;
+  counted = let h : AreCounted [] c.in_ok-seats.seats.items = fresh_counts c.in_ok-seats.seats.items c.in_ok-seats.ensures.fresh in search rules;
+}
 
 pub returns-in_err-seats : goal.returns-in_err-seats
 returns-in_err-seats c =

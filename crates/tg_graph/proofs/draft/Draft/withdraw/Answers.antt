@@ -1,0 +1,34 @@
+use Rattle.std.proofs.Common.{◌∙◌, sym, ap, subst, bytes_eq}
+use Rattle.std.specs.Map.{keys_of}
+use Rattle.indexmap.specs.IndexSet.{insert_key}
+use Rattle.tg_graph.specs.GraphOf.{graph_of}
+use Rattle.tg_graph.specs.Rules.{without_rights}
+use Rattle.tg_graph.specs.Drafts.{Fits, laid_over}
+use Rattle.tg_graph.proofs.Drafts.{laid-takes, fits-takes, draft-takes, keys-row}
+use Rattle.tg_graph.proofs.draft.Draft.withdraw.Goals as goal
+
+pub invariant_of-self-2 : goal.invariant_of-self-2
+invariant_of-self-2 c =
+    let base = c.args.base.now in
+    let f = subst (Fits base) (sym c.self.view_is) c.requires.fits in
+    draft-takes base c.len.ensures.graph c.self.inside.rows.entries c.self.invariant.rows c.self.inside.created.items f c.narrow.new.rows.entries c.args.x c.args.y c.args.rights c.in_ok-narrow.ensures.narrowed
+
+pub returns-clause-taken : goal.returns-clause-taken
+returns-clause-taken c =
+    let base = c.args.base.now in
+    let f = subst (Fits base) (sym c.self.view_is) c.requires.fits in
+    laid-takes base c.len.ensures.graph c.self.inside.rows.entries c.self.invariant.rows c.self.inside.created.items f c.narrow.new.rows.entries c.args.x c.args.y c.args.rights c.in_ok-narrow.ensures.narrowed
+    ∙ ap (λ d. without_rights (graph_of (laid_over base d)) c.args.x c.args.y c.args.rights) c.self.view_is
+
+pub returns-clause-rows : goal.returns-clause-rows
+returns-clause-rows c =
+    let base = c.args.base.now in
+    let f = subst (Fits base) (sym c.self.view_is) c.requires.fits in
+    keys-row base c.len.ensures.graph c.self.inside.rows.entries c.self.invariant.rows c.self.inside.created.items f c.narrow.new.rows.entries c.args.x c.in_ok-narrow.ensures.narrowed
+    ∙ ap (λ d. insert_key bytes_eq (keys_of d.0) c.args.x) c.self.view_is
+
+pub returns-clause-fits : goal.returns-clause-fits
+returns-clause-fits c =
+    let base = c.args.base.now in
+    let f = subst (Fits base) (sym c.self.view_is) c.requires.fits in
+    fits-takes base c.len.ensures.graph c.self.inside.rows.entries c.self.invariant.rows c.self.inside.created.items f c.narrow.new.rows.entries c.args.x c.args.y c.args.rights c.in_ok-narrow.ensures.narrowed

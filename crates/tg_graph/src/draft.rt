@@ -1,0 +1,380 @@
+//! Changed rows and new vertices laid over a graph.
+ghost use Rattle.std.specs.Prelude.{◌≡◌, ◌+◌, ◌<◌, ◌≤◌, [], ◌∷◌, true, false, Some, IfOk, IfErr, OnOk, OnErr, bytes_eq, length};
+ghost use Rattle.std.specs.Map.{keys_of};
+ghost use Rattle.indexmap.specs.IndexMap.{spare, insert_entry, insert_all};
+ghost use Rattle.indexmap.specs.IndexSet.{insert_key, insert_all as insert_all_keys};
+ghost use Rattle.tg_graph.specs.Sets.{IsNamed};
+ghost use Rattle.tg_graph.specs.Rows.{Entries, is_known, IsGraph, Adds, TakesAway};
+ghost use Rattle.tg_graph.specs.Graphs.{has_vertex};
+ghost use Rattle.tg_graph.specs.GraphOf.{graph_of};
+ghost use Rattle.tg_graph.specs.Rules.{verdict, Applies, rights_of, with_rights, without_rights, with_vertex, refusal_of, after};
+ghost use Rattle.tg_graph.specs.Drafts.{laid_over, Fits, IsDraft, PutsRow, written_by, FittingIsByNames, ApartFit, ApartCommute};
+
+use crate::checks::{self, Rows};
+use crate::names::Name;
+use crate::protection::Graph;
+use crate::right_sets::{Right, Rights};
+use crate::row::Row;
+use crate::rules::{Refusal, Rule, RuleFault};
+use crate::shared_row::SharedRow;
+use indexmap::IndexMap;
+use std::alloc::{AllocError, Global};
+use std::marker::Model;
+
+/// Changed rows and new vertices, laid over a graph.
+///
+/// A contract sees a draft as its rows and the created vertices; what it stands for over a graph is `laid_over`.
+/// The calls that are given a graph require that the draft fits it.
+#[derive(Drop)]
+pub struct Draft {
+    rows: IndexMap<Name, SharedRow>,
+    created: Vec<Name>,
+    alloc: Global,
+}
+
+impl Model for Draft {
+    ghost use Rattle.std.specs.Prelude.{List, ℕ};
+    ghost use Rattle.tg_graph.specs.declared.right_sets.Rights.{Rights};
+
+    ghost Value = { List (List ℕ × List (List ℕ × Rights)) × List (List ℕ) };
+
+    ghost use Rattle.tg_graph.specs.Drafts.{IsDraft};
+
+    ghost view = { λ d. (d.rows.entries, d.created.items) };
+
+    ghost invariant = { λ d. IsDraft (d.rows.entries, d.created.items) };
+}
+
+// A graph with a draft laid over it.
+#[derive(Clone, Copy)]
+struct Laid<'a> {
+    base: &'a Graph,
+    draft: &'a Draft,
+}
+
+impl<'a> Rows for Laid<'a> {
+    ghost entries = { λ l. laid_over l.base.now l.draft.now };
+
+    fn row(&self, x: Name) -> Option<&Row> {
+        let draft = self.draft;
+        match draft.rows.get(&x) {
+            Some(row) => Some(row.edges()),
+            None => self.base.row(x),
+        }
+    }
+}
+
+// Adds rights to the label of an edge.
+fn widen(
+    rows: &mut IndexMap<Name, SharedRow>,
+    base: &Graph,
+    x: Name,
+    y: Name,
+    rights: Rights,
+) -> Result<(), AllocError>
+    requires named { IsNamed rights }
+    requires known { is_known (insert_all bytes_eq base.now rows.old.entries) x ≡ true }
+    ensures widened { OnOk result
+        (PutsRow (λ a b. Adds a b y rights) base.now rows.old.entries rows.new.entries x) }
+    ensures err { OnErr result (rows.new.entries ≡ rows.old.entries) }
+    ensures room { spare rows.old ≤ spare rows.new + 1 }
+{
+    match rows.get_mut(&x) {
+        Some(row) => row.add(y, rights),
+        None => {
+            let mut row = base.row_of(x)?;
+            row.add(y, rights)?;
+            rows.insert(x, row)?;
+            Ok(())
+        }
+    }
+}
+
+// Takes rights out of the label of an edge.
+fn narrow(
+    rows: &mut IndexMap<Name, SharedRow>,
+    base: &Graph,
+    x: Name,
+    y: Name,
+    rights: Rights,
+) -> Result<(), AllocError>
+    requires named { IsNamed rights }
+    requires known { is_known (insert_all bytes_eq base.now rows.old.entries) x ≡ true }
+    ensures narrowed { OnOk result
+        (PutsRow (λ a b. TakesAway a b y rights) base.now rows.old.entries rows.new.entries x) }
+    ensures err { OnErr result (rows.new.entries ≡ rows.old.entries) }
+{
+    match rows.get_mut(&x) {
+        Some(row) => row.take(y, rights),
+        None => {
+            let mut row = base.row_of(x)?;
+            row.take(y, rights)?;
+            rows.insert(x, row)?;
+            Ok(())
+        }
+    }
+}
+
+// Puts a row in, for which there is room.
+fn put(rows: &mut IndexMap<Name, SharedRow>, n: Name, row: SharedRow)
+    requires room { 0 < spare rows.old }
+    ensures { rows.new.entries ≡ insert_entry bytes_eq rows.old.entries n row }
+{
+    let _ = rows.insert(n, row);
+}
+
+// The same rows, shared.
+fn copied(rows: &IndexMap<Name, SharedRow>) -> Result<IndexMap<Name, SharedRow>, AllocError>
+    ensures { IfOk result (λ copy. copy.entries ≡ rows.now.entries) }
+{
+    let copy = rows.clone()?;
+    Ok(copy)
+}
+
+impl Draft {
+    /// The draft that changes nothing. It fits each graph.
+    pub fn new(alloc: Global) -> Draft
+        ensures value { result ≡ ([], []) }
+        ensures fits { (base : Entries) → Fits base result }
+    {
+        Draft {
+            rows: IndexMap::new(alloc),
+            created: Vec::new(alloc),
+            alloc,
+        }
+    }
+
+    /// How many vertices are created.
+    pub fn created(&self) -> usize
+        ensures value { result ≡ length self.now.1 }
+        ensures draft { IsDraft self.now }
+    {
+        self.created.len()
+    }
+
+    /// Whether a name is a vertex of what the draft stands for.
+    pub fn known(&self, base: &Graph, name: Name) -> bool
+        requires { Fits base.now self.now }
+        ensures { result ≡ has_vertex (graph_of (laid_over base.now self.now)) name }
+    {
+        checks::knows(&Laid { base, draft: self }, name)
+    }
+
+    /// Whether x has a right over y in what the draft stands for.
+    pub fn holds(&self, base: &Graph, x: Name, right: Right, y: Name) -> bool
+        requires { Fits base.now self.now }
+        ensures { result ≡ (graph_of (laid_over base.now self.now)).holds x right y }
+    {
+        checks::holds(&Laid { base, draft: self }, x, right, y)
+    }
+
+    // Adds rights to the label of an edge.
+    fn give(&mut self, base: &Graph, x: Name, y: Name, rights: Rights) -> Result<(), AllocError>
+        requires named { IsNamed rights }
+        requires fits { Fits base.now self.old }
+        requires source { has_vertex (graph_of (laid_over base.now self.old)) x ≡ true }
+        requires target { has_vertex (graph_of (laid_over base.now self.old)) y ≡ true }
+        ensures given { OnOk result
+            (graph_of (laid_over base.now self.new) ≡ with_rights (graph_of (laid_over base.now self.old)) x y rights) }
+        ensures rows { OnOk result (keys_of self.new.0 ≡ insert_key bytes_eq (keys_of self.old.0) x) }
+        ensures fits { Fits base.now self.new }
+        ensures err { OnErr result (self.new ≡ self.old) }
+    {
+        let _ = base.len();
+        widen(&mut self.rows, base, x, y, rights)?;
+        Ok(())
+    }
+
+    // Takes rights out of the label of an edge.
+    fn withdraw(&mut self, base: &Graph, x: Name, y: Name, rights: Rights) -> Result<(), AllocError>
+        requires named { IsNamed rights }
+        requires fits { Fits base.now self.old }
+        requires source { has_vertex (graph_of (laid_over base.now self.old)) x ≡ true }
+        ensures taken { OnOk result
+            (graph_of (laid_over base.now self.new) ≡ without_rights (graph_of (laid_over base.now self.old)) x y rights) }
+        ensures rows { OnOk result (keys_of self.new.0 ≡ insert_key bytes_eq (keys_of self.old.0) x) }
+        ensures fits { Fits base.now self.new }
+        ensures err { OnErr result (self.new ≡ self.old) }
+    {
+        let _ = base.len();
+        narrow(&mut self.rows, base, x, y, rights)?;
+        Ok(())
+    }
+
+    // Adds a vertex, over which x has the rights.
+    fn create(&mut self, base: &Graph, x: Name, n: Name, rights: Rights) -> Result<(), AllocError>
+        requires named { IsNamed rights }
+        requires fits { Fits base.now self.old }
+        requires source { has_vertex (graph_of (laid_over base.now self.old)) x ≡ true }
+        requires fresh { has_vertex (graph_of (laid_over base.now self.old)) n ≡ false }
+        ensures created { OnOk result
+            (graph_of (laid_over base.now self.new) ≡ with_rights (with_vertex (graph_of (laid_over base.now self.old)) n) x n rights) }
+        ensures rows { OnOk result (keys_of self.new.0 ≡ insert_all_keys bytes_eq (keys_of self.old.0) (x ∷ n ∷ [])) }
+        ensures fits { Fits base.now self.new }
+        ensures err { OnErr result (self.new ≡ self.old) }
+    {
+        let _ = base.len();
+        let _ = n.as_bytes();
+        let row = SharedRow::new(self.alloc)?;
+        self.rows.reserve(2)?;
+        self.created.reserve(1)?;
+        widen(&mut self.rows, base, x, n, rights)?;
+        put(&mut self.rows, n, row);
+        self.created.push_reserved(n);
+        Ok(())
+    }
+
+    /// Whether what the draft stands for accepts a rule. The error is the first reason to refuse it.
+    pub fn check(&self, base: &Graph, rule: &Rule) -> Result<(), Refusal>
+        requires named { IsNamed (rights_of rule.now) }
+        requires fits { Fits base.now self.now }
+        ensures { result ≡ verdict (refusal_of (graph_of (laid_over base.now self.now)) rule.now) }
+    {
+        checks::check(&Laid { base, draft: self }, rule)
+    }
+
+    /// Carries out a rule on what the draft stands for. A refused rule, and want of memory, change nothing.
+    #[tactic(auto, unfolding(crate::specs::Rules::refusal_of, crate::specs::Rules::after))]
+    pub fn apply(&mut self, base: &Graph, rule: &Rule) -> Result<(), RuleFault>
+        requires named { IsNamed (rights_of rule.now) }
+        requires fits { Fits base.now self.old }
+        ensures applied { Applies (graph_of (laid_over base.now self.old)) rule.now result (graph_of (laid_over base.now self.new)) }
+        // The names of its rows are those from before, and then the written ones that were not among them.
+        ensures rows { OnOk result (keys_of self.new.0 ≡ insert_all_keys bytes_eq (keys_of self.old.0) (written_by rule.now)) }
+        ensures fits { Fits base.now self.new }
+        ensures kept { OnErr result (self.new ≡ self.old) }
+    {
+        checks::check(&Laid { base, draft: self }, rule)?;
+        match *rule {
+            Rule::Take { x, z, rights, .. } => self.give(base, x, z, rights)?,
+            Rule::Grant { y, z, rights, .. } => self.give(base, y, z, rights)?,
+            Rule::Create { x, n, rights } => self.create(base, x, n, rights)?,
+            Rule::Remove { x, y, rights } => self.withdraw(base, x, y, rights)?,
+        }
+        Ok(())
+    }
+
+    /// What the draft stands for, as a graph of its own. It shares each row with the base or the draft.
+    pub fn whole(&self, base: &Graph) -> Result<Graph, AllocError>
+        requires { Fits base.now self.now }
+        ensures { IfOk result (λ whole. whole ≡ laid_over base.now self.now) }
+    {
+        let _ = base.len();
+        let mut whole = base.copy()?;
+        let mut rows = copied(&self.rows)?;
+        whole.lay(&mut rows)?;
+        Ok(whole)
+    }
+}
+
+/// A draft and the graph that it is laid over, in which there is room for all that the draft puts in.
+///
+/// A contract sees the graph, and then the draft.
+#[derive(Drop)]
+pub struct Ready {
+    rows: IndexMap<Name, SharedRow>,
+    alloc: Global,
+    draft: Draft,
+}
+
+impl Model for Ready {
+    ghost use Rattle.std.specs.Prelude.{List, ℕ, ◌≤◌, length};
+    ghost use Rattle.indexmap.specs.IndexMap.{spare};
+    ghost use Rattle.tg_graph.specs.declared.right_sets.Rights.{Rights};
+
+    ghost Value = { List (List ℕ × List (List ℕ × Rights)) × (List (List ℕ × List (List ℕ × Rights)) × List (List ℕ)) };
+
+    ghost use Rattle.tg_graph.specs.Rows.{IsGraph};
+    ghost use Rattle.tg_graph.specs.Drafts.{Fits};
+
+    ghost view = { λ r. (r.rows.entries, r.draft) };
+
+    ghost invariant = { λ r. IsGraph r.rows.entries × Fits r.rows.entries r.draft × (length r.draft.0 ≤ spare r.rows) };
+}
+
+impl Ready {
+    /// Makes the room. Where memory is refused, graph and draft are given back.
+    pub fn new(base: Graph, draft: Draft) -> Result<Ready, (Graph, Draft)>
+        requires { Fits base draft }
+        ensures ok { IfOk result (λ ready. ready ≡ (base, draft)) }
+        ensures err { IfErr result (λ parts. parts ≡ (base, draft)) }
+    {
+        let (mut rows, alloc) = base.into_rows();
+        match rows.reserve(draft.rows.len()) {
+            Ok(()) => Ok(Ready { rows, alloc, draft }),
+            Err(_) => Err((Graph::from_rows(rows, alloc), draft)),
+        }
+    }
+
+    /// The graph that the draft stands for. It takes no memory, and its cost is that of the draft's rows.
+    pub fn merge(self) -> Graph
+        ensures { result ≡ laid_over self.0 self.1 }
+    {
+        let Ready {
+            mut rows,
+            alloc,
+            draft,
+        } = self;
+        let Draft {
+            rows: mut changes,
+            ..
+        } = draft;
+        let _ = rows.append(&mut changes);
+        Graph::from_rows(rows, alloc)
+    }
+
+    /// The graph and the draft.
+    pub fn into_parts(self) -> (Graph, Draft)
+        ensures { result ≡ self }
+    {
+        let Ready { rows, alloc, draft } = self;
+        (Graph::from_rows(rows, alloc), draft)
+    }
+}
+
+impl Graph {
+    /// The draft over the graph that changes nothing.
+    pub fn draft(&self) -> Draft
+        ensures value { result ≡ ([], []) }
+        ensures fits { Fits self.now result }
+    {
+        Draft::new(self.allocator())
+    }
+
+    /// Takes the draft's changes in, at the cost of the draft's rows. Where memory is refused, nothing is changed,
+    /// and the draft is given back.
+    pub fn merge(&mut self, draft: Draft) -> Result<(), Draft>
+        requires { Fits self.old draft }
+        ensures merged { OnOk result (self.new ≡ laid_over self.old draft) }
+        ensures err { OnErr result (self.new ≡ self.old) }
+        ensures back { IfErr result (λ back. back ≡ draft) }
+    {
+        let _ = self.len();
+        let Draft {
+            mut rows,
+            created,
+            alloc,
+        } = draft;
+        match self.lay(&mut rows) {
+            Ok(()) => Ok(()),
+            Err(_) => Err(Draft {
+                rows,
+                created,
+                alloc,
+            }),
+        }
+    }
+}
+
+/// A draft fits a graph exactly where no created name is a vertex there, and each source and each target of its
+/// rows is a vertex there or created.
+pub fn drafts_fit_by_names()
+    ensures { FittingIsByNames }
+{}
+
+/// Of drafts over one graph that have no row in common each fits what the other makes of the graph, and what both
+/// make of it is the same whichever is laid first.
+pub fn drafts_apart_commute()
+    ensures fit { ApartFit }
+    ensures same { ApartCommute }
+{}
