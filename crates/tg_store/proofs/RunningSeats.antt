@@ -167,6 +167,17 @@ goes_on-trans s t u a b = record {
   taken = omega (arith, a.taken, b.taken);
 }
 
+-- it has seen and put no more
+pub goes_on-taken : (s t : RunningSeat) → t.opening ≡ s.opening → t.pass ≡ s.pass → s.taken ≤ t.taken → GoesOn s t
+goes_on-taken s t o p le = record {
+  opening = o;
+  number = ap (λ (p : PassState Record). p.number) p;
+  cells = ap (λ (p : PassState Record). p.cells) p;
+  known = subst (Remembers s.pass) (sym p) (λ place r k. k);
+  seen = subst (λ (p : PassState Record). Begins s.pass.seen p.seen) (sym p) (begins-refl s.pass.seen);
+  taken = le;
+}
+
 -- ---- one look after another
 -- after some looks, of which this was the last
 pub record Looked (old : RunningSeat) (look : Look) (new : RunningSeat) : Type 0 where
@@ -234,7 +245,7 @@ module _ (s t : RunningSeat) (o : t.opening ≡ s.opening) (taken : t.taken ≡ 
     seat-won place all seat count answers says =
         seat-puts s t o (begins-push s.pass.seen t.pass.seen stored says.1) number taken graph p h stored place all says.0 says.1 says.2 seat count answers
 
-    seat-not-won : (answer : Put) → ((place : ℕ) → answer ≡ put.Won place → ⊥) → PutSays seat_number stored answer s.pass t.pass → IsSeat t
+    pub seat-not-won : (answer : Put) → ((place : ℕ) → answer ≡ put.Won place → ⊥) → PutSays seat_number stored answer s.pass t.pass → IsSeat t
     seat-not-won answer other says =
         seat-sees s t o (put-begins stored answer s.pass t.pass says) number taken graph p h (put-mine stored answer s.pass t.pass other says)
 

@@ -8,7 +8,7 @@ use Rattle.tg_graph.specs.Rows.{Entries}
 use Rattle.tg_graph.specs.GraphOf.{graph_of}
 use Rattle.tg_journal.specs.declared.answers.Put.TheVariants as put
 use Rattle.tg_journal.specs.Lists.{Begins}
-use Rattle.tg_journal.specs.Pass.{PassState, Remembers}
+use Rattle.tg_journal.specs.Pass.{PassState, IsPass, Remembers}
 use Rattle.tg_journal.specs.Answers.{PutSays}
 use Rattle.tg_store.specs.declared.answers.Answered.{Answered}
 use Rattle.tg_store.specs.declared.records.Record.{Record}
@@ -22,8 +22,12 @@ use Rattle.tg_store.specs.Touches.{IsClear}
 use Rattle.tg_store.specs.Running.{RunningSeat, RunningSession, seat_number, seen_graph, IsSeat, IsSession, GoesOn}
 use Rattle.tg_store.specs.Outcomes.{NoneObstructs, IsPut, CommitSays, CommitFaultSays}
 use Rattle.tg_store.specs.Attempts.{progress}
+use Rattle.tg_store.specs.Offers.{IsNotWon, OfferSays}
+use Rattle.tg_store.specs.declared.running_seats.Offered.TheVariants.{Won, Back}
+use Rattle.tg_graph.specs.Drafts.{Changes}
+use Rattle.tg_journal.specs.declared.answers.Put.{Put}
 use Rattle.tg_store.proofs.Ordered.{replay-next}
-use Rattle.tg_store.proofs.RunningSeats.{begins-refl, begins-back, graph-kept, goes_on-refl, goes_on-trans, get-push}
+use Rattle.tg_store.proofs.RunningSeats.{begins-refl, begins-back, graph-kept, goes_on-refl, goes_on-trans, goes_on-taken, get-push, seat-at, seat-put, seat-not-won, put-goes_on}
 
 -- ---- records that obstruct no session
 pub none-yet : (s : RunningSeat) (steps : List Answered) (from to : ℕ) → to ≤ from → NoneObstructs s steps from to
@@ -120,13 +124,43 @@ look-foreign s t steps place all h =
 pub rested : (s u : RunningSeat) (steps : List Answered) (r : Record) → IsSeat s → slice_get s.pass.seen s.taken ≡ Some r → IsClear (graph_of s.graph) r.steps (Some steps) → u.opening ≡ s.opening → u.pass ≡ s.pass → u.taken ≡ s.taken + 1 → IsSeat u → AreAnswers (graph_of u.graph) steps
     → CommitSays (record { seat = s; steps = steps }) (Again (record { seat = u; steps = steps })) × (progress (record { seat = s; steps = steps }) < progress (record { seat = u; steps = steps }))
 rested s u steps r h is clear o p n k answers =
-    let g : GoesOn s u = record {
-      opening = o;
-      number = ap (λ (p : PassState Record). p.number) p;
-      cells = ap (λ (p : PassState Record). p.cells) p;
-      known = subst (Remembers s.pass) (sym p) (λ place r k. k);
-      seen = subst (λ (p : PassState Record). Begins s.pass.seen p.seen) (sym p) (begins-refl s.pass.seen);
-      taken = omega (arith, n);
-    } in
+    let g : GoesOn s u = goes_on-taken s u o p (omega (arith, n)) in
     let seen = ap (λ (p : PassState Record). length p.seen) p in
     ((g, ap (λ (p : PassState Record). p.mine) p, subst (NoneObstructs u steps s.taken) (sym n) (none-next s u steps r g h is clear), refl, record { seat = k; answers = answers }), omega (arith, n, seen))
+
+-- ---- a record that a seat offers
+pub is_not_won : (answer : Put) → ((place : ℕ) → answer ≡ put.Won place → ⊥) → IsNotWon answer
+is_not_won put.Full h = tt
+is_not_won put.Memory h = tt
+is_not_won (put.Won place) h = h place refl
+is_not_won (put.Lost place) h = tt
+is_not_won (put.Foreign place) h = tt
+
+module _ (s : RunningSeat) (h : IsSeat s) (stored : Record) (draft : Changes) (rows : Entries) where
+  -- there is no room
+  pub offer-unready : (back : Changes) → ◌≡◌ {A = Entries × Changes} (rows, back) (s.graph, draft) → OfferSays s draft stored (Back (record { opening = s.opening; pass = s.pass; taken = s.taken; graph = rows }) back put.Memory)
+  offer-unready back e =
+      let same : rows ≡ s.graph = ap (λ p. p.0) e in
+      let t : RunningSeat = record { opening = s.opening; pass = s.pass; taken = s.taken; graph = rows } in
+      (record { says = refl; full = λ e. cc; goes_on = goes_on-taken s t refl refl (omega arith); seat = seat-at s s.taken rows h h.within (ap graph_of same ∙ h.replayed) }, tt, ap (λ p. p.1) e, refl, same)
+
+  module _ (pass : PassState Record) (number : pass.number ≡ s.pass.number) (cells : pass.cells ≡ s.pass.cells) (known : Remembers s.pass pass) (p : IsPass seat_number pass) where
+    -- it was not put
+    pub offer-back : (answer : Put) (back : Changes) → ◌≡◌ {A = Entries × Changes} (rows, back) (s.graph, draft) → ((place : ℕ) → answer ≡ put.Won place → ⊥) → (answer ≡ put.Full → length s.pass.seen ≡ length s.pass.cells) → PutSays seat_number stored answer s.pass pass
+        → OfferSays s draft stored (Back (record { opening = s.opening; pass = pass; taken = s.taken; graph = rows }) back answer)
+    offer-back answer back e other full says =
+        let same : rows ≡ s.graph = ap (λ p. p.0) e in
+        let t : RunningSeat = record { opening = s.opening; pass = pass; taken = s.taken; graph = rows } in
+        (record { says = says; full = full; goes_on = put-goes_on s t refl refl same number stored answer cells known says; seat = seat-not-won s t refl refl same number stored p h answer other says }, is_not_won answer other, ap (λ p. p.1) e, refl, same)
+
+    -- it was put
+    pub offer-won : (place : ℕ) → s.taken ≡ length s.pass.seen → stored.seat ≡ s.pass.number → stored.number ≡ length s.pass.mine → AreAnswers (graph_of s.graph) stored.steps → graph_of rows ≡ after_steps (graph_of s.graph) stored.steps → PutSays seat_number stored (put.Won place) s.pass pass
+        → OfferSays s draft stored (Won (record { opening = s.opening; pass = pass; taken = s.taken + 1; graph = rows }) place)
+    offer-won place all seat count answers laid says =
+        let t : RunningSeat = record { opening = s.opening; pass = pass; taken = s.taken; graph = s.graph } in
+        let u : RunningSeat = record { opening = s.opening; pass = pass; taken = s.taken + 1; graph = rows } in
+        let sat = seat-put s t refl refl refl number stored p h (put.Won place) all seat count answers says in
+        let next = put-next s t stored.steps stored place all refl says in
+        let g = put-goes_on s t refl refl refl number stored (put.Won place) cells known says in
+        let lt = slice_get_within pass.seen s.taken stored next in
+        (record { says = says; full = λ e. cc; goes_on = goes_on-trans s t u g (goes_on-taken t u refl refl (omega arith)); seat = seat-at t (s.taken + 1) rows sat (omega (arith, lt)) (next-graph t stored rows sat next laid) }, refl)

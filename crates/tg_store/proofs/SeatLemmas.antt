@@ -17,14 +17,16 @@ use Rattle.tg_store.specs.StepWords.{IsNamedStep}
 use Rattle.tg_store.specs.Answers.{IsAnswer, AreAnswers, after_step, after_steps}
 use Rattle.tg_store.specs.Histories.{replay}
 use Rattle.tg_store.specs.Touches.{IsClear, name_count, creates}
+use Rattle.tg_graph.specs.Drafts.{Fits}
 use Rattle.tg_store.specs.Overlays.{laid_over}
 use Rattle.tg_store.specs.Seats.{IsSessionOn, Rests}
 use Rattle.tg_store.proofs.Ordered.{after_steps-push, AreAnswers-push, replay-next, replay-push}
 use Rattle.tg_store.proofs.Crowds.{answers-clear}
 
 -- a session with one step more
-pub session-push : (base : Entries) (o p : OpenSession) (a : Answered) → IsSessionOn base o → p.kept.items ≡ o.kept.items ++ a ∷ [] → laid_over base p.overlay ≡ after_step (laid_over base o.overlay) a.step → IsAnswer (laid_over base o.overlay) a.step a.reply → IsNamedStep a.step → IsSessionOn base p
-session-push base o p a on e next told named = record {
+pub session-push : (base : Entries) (o p : OpenSession) (a : Answered) → IsSessionOn base o → p.kept.items ≡ o.kept.items ++ a ∷ [] → laid_over base p.overlay ≡ after_step (laid_over base o.overlay) a.step → IsAnswer (laid_over base o.overlay) a.step a.reply → IsNamedStep a.step → Fits base p.overlay → IsSessionOn base p
+session-push base o p a on e next told named fits = record {
+  fits = fits;
   laid = next ∙ ap (λ g. after_step g a.step) on.laid ∙ sym (after_steps-push (graph_of base) o.kept.items a) ∙ ap (after_steps (graph_of base)) (sym e);
   answers = subst (AreAnswers (graph_of base)) (sym e) (AreAnswers-push (graph_of base) o.kept.items a on.answers (subst (λ g. IsAnswer g a.step a.reply) on.laid told));
   named = subst (All (λ a. IsNamedStep a.step)) (sym e) (All-push (λ a. IsNamedStep a.step) o.kept.items a on.named named);
@@ -32,8 +34,9 @@ session-push base o p a on e next told named = record {
 
 -- a session that rests on a record as well
 pub session-clear : (base next : Entries) (committed : List Answered) (o p : OpenSession) → IsSessionOn base o → p.kept.items ≡ o.kept.items → IsDistinct bytes_eq (graph_of base).vertices
-    → graph_of next ≡ after_steps (graph_of base) committed → IsClear (graph_of base) committed (Some o.kept.items) → laid_over next p.overlay ≡ after_steps (graph_of next) o.kept.items → IsSessionOn next p
-session-clear base next committed o p on e apart is clear laid = record {
+    → graph_of next ≡ after_steps (graph_of base) committed → IsClear (graph_of base) committed (Some o.kept.items) → laid_over next p.overlay ≡ after_steps (graph_of next) o.kept.items → Fits next p.overlay → IsSessionOn next p
+session-clear base next committed o p on e apart is clear laid suits = record {
+  fits = suits;
   laid = laid ∙ ap (after_steps (graph_of next)) (sym e);
   answers = subst (AreAnswers (graph_of next)) (sym e) (subst (λ g. AreAnswers g o.kept.items) (sym is) (answers-clear (graph_of base) committed o.kept.items apart clear.0 fits on.answers));
   named = subst (All (λ a. IsNamedStep a.step)) (sym e) on.named;

@@ -13,5 +13,6 @@ pub mod Running
 pub mod Weighing
 pub mod Outcomes
 pub mod Looks
+pub mod Offers
 pub mod Attempts
 pub mod Agreed

@@ -4,7 +4,7 @@ use Rattle.std.specs.Option.{option_map}
 use Rattle.tg_graph.specs.Rows.{Entries}
 use Rattle.tg_graph.specs.Graphs.{ProtectionGraph}
 use Rattle.tg_graph.specs.GraphOf.{graph_of}
-use Rattle.tg_store.specs.declared.overlays.Overlay.{Overlay}
+use Rattle.tg_graph.specs.Drafts.{Changes, Fits}
 use Rattle.tg_store.specs.declared.seats.OpenSession.{OpenSession}
 use Rattle.tg_store.specs.declared.seats.SeatState.{SeatState}
 use Rattle.tg_store.specs.declared.records.Record.{Record}
@@ -26,6 +26,7 @@ seen_seat s = record { taken = s.taken; session = option_map (λ o. o.kept.items
 
 -- the session stands on the base: its graph is the base with its steps, its replies are answers there
 pub record IsSessionOn (base : Entries) (o : OpenSession) : Type 0 where
+  pub fits : Fits base o.overlay
   pub laid : laid_over base o.overlay ≡ after_steps (graph_of base) o.kept.items
   pub answers : AreAnswers (graph_of base) o.kept.items
   pub named : All (λ a. IsNamedStep a.step) o.kept.items
@@ -69,10 +70,11 @@ pub record IsClearPart (g : ProtectionGraph) (steps : List Answered) (records : 
   pub answers : AreAnswers h steps
 
 -- the seat's session goes on after so many of the records that are left, with its graph laid over the one that they lead to
-pub record GoesFurther (s : SeatState) (records : List Record) (graph : Entries) (overlay : Overlay) (count : ℕ) : Type 0 where
+pub record GoesFurther (s : SeatState) (records : List Record) (graph : Entries) (overlay : Changes) (count : ℕ) : Type 0 where
   pub session : OpenSession
   pub is_open : s.session ≡ Some session
   pub part : IsClearPart (graph_of s.graph) session.kept.items (drop s.taken records) count (graph_of graph)
+  pub fits : Fits graph overlay
   pub laid : laid_over graph overlay ≡ after_steps (graph_of graph) session.kept.items
 
 -- the records that the seat takes in leave its session as it is; without a session it takes in none

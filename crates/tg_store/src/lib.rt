@@ -9,7 +9,6 @@ mod halls;
 #[cfg(test)]
 mod memory_tests;
 mod outcomes;
-mod overlays;
 mod records;
 mod replays;
 mod running_seats;

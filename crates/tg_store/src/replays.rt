@@ -3,6 +3,9 @@ ghost use Rattle.std.specs.Prelude.{◌≡◌, All, IfOk, OnOk, OnErr, is_some, 
 ghost use Rattle.tg_graph.specs.Sets.{IsNamed};
 ghost use Rattle.tg_graph.specs.Rules.{rights_of};
 ghost use Rattle.tg_graph.specs.GraphOf.{graph_of};
+ghost use Rattle.std.specs.Prelude.{None, if◌then◌else◌};
+ghost use Rattle.tg_graph.specs.Drafts.{Fits};
+ghost use Rattle.tg_store.specs.Overlays.{laid_over};
 ghost use Rattle.tg_store.specs.StepWords.{IsNamedStep};
 ghost use Rattle.tg_store.specs.Histories.{replay};
 ghost use Rattle.tg_store.specs.Answers.{lack_of_room, session_refusal, IsAnswer, unknown_of_two, after_step, after_steps};
@@ -11,41 +14,45 @@ use crate::answers::Answered;
 use crate::records::Record;
 use std::alloc::{AllocError, Global};
 use tg_analysis::{AskFault, can_share};
-use tg_graph::{Graph, MOST_VERTICES, Name, Refusal, Reply, Right, Rule, RuleFault, Step};
+use tg_graph::{Draft, Graph, MOST_VERTICES, Name, Refusal, Reply, Right, Rule, RuleFault, Step};
 
 // Whether the rule would create a vertex for which there is no room.
-fn lacks_room(graph: &Graph, rule: &Rule) -> bool
-    ensures { result ≡ is_some (lack_of_room (graph_of graph.now) rule.now) }
+fn lacks_room(base: &Graph, draft: &Draft, rule: &Rule) -> bool
+    requires { Fits base.now draft.now }
+    ensures { result ≡ is_some (lack_of_room (laid_over base.now draft.now) rule.now) }
 {
     match *rule {
-        Rule::Create { .. } => graph.len() >= MOST_VERTICES,
+        Rule::Create { .. } => base.len() >= MOST_VERTICES.saturating_sub(draft.created()),
         _ => false,
     }
 }
 
 // The refusal of a rule for which there is no room.
-fn refused(graph: &Graph, rule: &Rule) -> Refusal
+fn refused(base: &Graph, draft: &Draft, rule: &Rule) -> Refusal
+    requires fits { Fits base.now draft.now }
     requires named { IsNamed (rights_of rule.now) }
-    requires full { lack_of_room (graph_of graph.now) rule.now ≡ Some Refusal.Full }
-    ensures { session_refusal (graph_of graph.now) rule.now ≡ Some result }
+    requires full { lack_of_room (laid_over base.now draft.now) rule.now ≡ Some Refusal.Full }
+    ensures { session_refusal (laid_over base.now draft.now) rule.now ≡ Some result }
 {
-    match graph.check(rule) {
+    match draft.check(base, rule) {
         Err(refusal) => refusal,
         Ok(()) => Refusal::Full,
     }
 }
 
 /// Carries out a rule in a session. An error changes nothing.
-pub fn carry_out(graph: &mut Graph, rule: &Rule) -> Result<Reply, AllocError>
-    requires { IsNamed (rights_of rule.now) }
-    ensures reply { IfOk result (λ reply. IsAnswer (graph_of graph.old) (Step.Do rule.now) reply) }
-    ensures after { OnOk result (graph_of graph.new ≡ after_step (graph_of graph.old) (Step.Do rule.now)) }
-    ensures err { OnErr result (graph.new ≡ graph.old) }
+pub fn carry_out(base: &Graph, draft: &mut Draft, rule: &Rule) -> Result<Reply, AllocError>
+    requires fits { Fits base.now draft.old }
+    requires named { IsNamed (rights_of rule.now) }
+    ensures reply { IfOk result (λ reply. IsAnswer (laid_over base.now draft.old) (Step.Do rule.now) reply) }
+    ensures after { OnOk result (laid_over base.now draft.new ≡ after_step (laid_over base.now draft.old) (Step.Do rule.now)) }
+    ensures err { OnErr result (draft.new ≡ draft.old) }
+    ensures fits { Fits base.now draft.new }
 {
-    if lacks_room(graph, rule) {
-        return Ok(Reply::Refused(refused(graph, rule)));
+    if lacks_room(base, draft, rule) {
+        return Ok(Reply::Refused(refused(base, draft, rule)));
     }
-    match graph.apply(rule) {
+    match draft.apply(base, rule) {
         Ok(()) => Ok(Reply::Done),
         Err(RuleFault::Refused(refusal)) => Ok(Reply::Refused(refusal)),
         Err(RuleFault::Memory) => Err(AllocError),
@@ -53,26 +60,28 @@ pub fn carry_out(graph: &mut Graph, rule: &Rule) -> Result<Reply, AllocError>
 }
 
 // The first of the two names that is no vertex.
-fn unknown_of_two(graph: &Graph, x: Name, y: Name) -> Option<Refusal>
-    ensures { result ≡ unknown_of_two (graph_of graph.now) x y }
+fn unknown_of_two(base: &Graph, draft: &Draft, x: Name, y: Name) -> Option<Refusal>
+    requires { Fits base.now draft.now }
+    ensures { result ≡ unknown_of_two (laid_over base.now draft.now) x y }
 {
-    if !graph.knows(x) {
+    if !draft.known(base, x) {
         return Some(Refusal::Unknown(x));
     }
-    if !graph.knows(y) {
+    if !draft.known(base, y) {
         return Some(Refusal::Unknown(y));
     }
     None
 }
 
-/// Answers whether x has a right over y.
-pub fn answer_holds(graph: &Graph, right: Right, x: Name, y: Name) -> Reply
-    ensures { IsAnswer (graph_of graph.now) (Step.Holds right x y) result }
+// Answers whether x has a right over y.
+fn answer_holds(base: &Graph, draft: &Draft, right: Right, x: Name, y: Name) -> Reply
+    requires { Fits base.now draft.now }
+    ensures { IsAnswer (laid_over base.now draft.now) (Step.Holds right x y) result }
 {
-    match unknown_of_two(graph, x, y) {
+    match unknown_of_two(base, draft, x, y) {
         Some(refusal) => Reply::Refused(refusal),
         None => {
-            if graph.holds(x, right, y) {
+            if draft.holds(base, x, right, y) {
                 Reply::Yes
             } else {
                 Reply::No
@@ -81,49 +90,80 @@ pub fn answer_holds(graph: &Graph, right: Right, x: Name, y: Name) -> Reply
     }
 }
 
-/// Answers whether x can come to have a right over y.
-pub fn answer_share(
+// Whether x can come to have a right over y.
+fn is_shared(
     alloc: Global,
-    graph: &Graph,
+    base: &Graph,
+    draft: &Draft,
     right: Right,
     x: Name,
     y: Name,
-) -> Result<Reply, AllocError>
-    ensures { IfOk result (λ reply. IsAnswer (graph_of graph.now) (Step.Share right x y) reply) }
+) -> Result<bool, AllocError>
+    requires fits { Fits base.now draft.now }
+    requires known { unknown_of_two (laid_over base.now draft.now) x y ≡ None }
+    ensures { IfOk result (λ shared. IsAnswer (laid_over base.now draft.now) (Step.Share right x y) (if shared then Reply.Yes else Reply.No)) }
 {
-    if let Some(refusal) = unknown_of_two(graph, x, y) {
-        return Ok(Reply::Refused(refusal));
-    }
-    match can_share(alloc, graph, right, x, y) {
-        Ok(true) => Ok(Reply::Yes),
-        Ok(false) => Ok(Reply::No),
+    let whole = draft.whole(base)?;
+    match can_share(alloc, &whole, right, x, y) {
+        Ok(shared) => Ok(shared),
         // both names are vertices, so only memory can be wanting
         Err(AskFault::Unknown(_) | AskFault::TooLarge | AskFault::Memory) => Err(AllocError),
     }
 }
 
-/// Answers a step, and carries it out. An error changes nothing.
-pub fn answer(alloc: Global, graph: &mut Graph, step: &Step) -> Result<Reply, AllocError>
-    requires { IsNamedStep step.now }
-    ensures reply { IfOk result (λ reply. IsAnswer (graph_of graph.old) step.now reply) }
-    ensures after { OnOk result (graph_of graph.new ≡ after_step (graph_of graph.old) step.now) }
-    ensures err { OnErr result (graph.new ≡ graph.old) }
+// Answers whether x can come to have a right over y.
+fn answer_share(
+    alloc: Global,
+    base: &Graph,
+    draft: &Draft,
+    right: Right,
+    x: Name,
+    y: Name,
+) -> Result<Reply, AllocError>
+    requires { Fits base.now draft.now }
+    ensures { IfOk result (λ reply. IsAnswer (laid_over base.now draft.now) (Step.Share right x y) reply) }
 {
-    match *step {
-        Step::Do(rule) => carry_out(graph, &rule),
-        Step::Holds { right, x, y } => Ok(answer_holds(graph, right, x, y)),
-        Step::Share { right, x, y } => answer_share(alloc, graph, right, x, y),
+    if let Some(refusal) = unknown_of_two(base, draft, x, y) {
+        return Ok(Reply::Refused(refusal));
+    }
+    if is_shared(alloc, base, draft, right, x, y)? {
+        Ok(Reply::Yes)
+    } else {
+        Ok(Reply::No)
     }
 }
 
-// Lays a step on a graph again.
-fn lay(graph: &mut Graph, step: &Step) -> Result<(), AllocError>
-    requires { IsNamedStep step.now }
-    ensures { OnOk result (graph_of graph.new ≡ after_step (graph_of graph.old) step.now) }
+/// Answers a step, and carries it out. An error changes nothing.
+pub fn answer(
+    alloc: Global,
+    base: &Graph,
+    draft: &mut Draft,
+    step: &Step,
+) -> Result<Reply, AllocError>
+    requires fits { Fits base.now draft.old }
+    requires named { IsNamedStep step.now }
+    ensures reply { IfOk result (λ reply. IsAnswer (laid_over base.now draft.old) step.now reply) }
+    ensures after { OnOk result (laid_over base.now draft.new ≡ after_step (laid_over base.now draft.old) step.now) }
+    ensures err { OnErr result (draft.new ≡ draft.old) }
+    ensures fits { Fits base.now draft.new }
+{
+    match *step {
+        Step::Do(rule) => carry_out(base, draft, &rule),
+        Step::Holds { right, x, y } => Ok(answer_holds(base, draft, right, x, y)),
+        Step::Share { right, x, y } => answer_share(alloc, base, draft, right, x, y),
+    }
+}
+
+// Lays a step on a draft again.
+fn stage(base: &Graph, draft: &mut Draft, step: &Step) -> Result<(), AllocError>
+    requires fits { Fits base.now draft.old }
+    requires named { IsNamedStep step.now }
+    ensures laid { OnOk result (laid_over base.now draft.new ≡ after_step (laid_over base.now draft.old) step.now) }
+    ensures fits { Fits base.now draft.new }
 {
     match *step {
         Step::Do(rule) => {
-            if carry_out(graph, &rule).is_err() {
+            if carry_out(base, draft, &rule).is_err() {
                 return Err(AllocError);
             }
             Ok(())
@@ -132,15 +172,30 @@ fn lay(graph: &mut Graph, step: &Step) -> Result<(), AllocError>
     }
 }
 
-/// Lays steps on a graph again, one after another. An error leaves some of them on it.
+/// The draft that steps make of a graph.
+pub fn with_steps(base: &Graph, steps: &[Answered]) -> Result<Draft, AllocError>
+    requires { All (λ a. IsNamedStep a.step) steps.now }
+    ensures laid { IfOk result (λ draft. laid_over base.now draft ≡ after_steps (graph_of base.now) steps.now) }
+    ensures fits { IfOk result (λ draft. Fits base.now draft) }
+{
+    let mut draft = base.draft();
+    for answered in steps {
+        stage(base, &mut draft, &answered.step)?;
+    }
+    Ok(draft)
+}
+
+/// Lays steps on a graph again, one after another. An error changes nothing.
 pub fn lay_all(graph: &mut Graph, steps: &[Answered]) -> Result<(), AllocError>
     requires { All (λ a. IsNamedStep a.step) steps.now }
-    ensures { OnOk result (graph_of graph.new ≡ after_steps (graph_of graph.old) steps.now) }
+    ensures laid { OnOk result (graph_of graph.new ≡ after_steps (graph_of graph.old) steps.now) }
+    ensures err { OnErr result (graph.new ≡ graph.old) }
 {
-    for answered in steps {
-        lay(graph, &answered.step)?;
+    let draft = with_steps(graph, steps)?;
+    match graph.merge(draft) {
+        Ok(()) => Ok(()),
+        Err(_) => Err(AllocError),
     }
-    Ok(())
 }
 
 /// A copy of a graph with steps on it.

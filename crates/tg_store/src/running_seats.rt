@@ -5,9 +5,10 @@ ghost use Rattle.std.specs.Option.{option_copied};
 ghost use Rattle.tg_graph.specs.GraphOf.{graph_of};
 ghost use Rattle.tg_journal.specs.Pass.{IsPass};
 ghost use Rattle.tg_journal.specs.Lists.{Begins};
-ghost use Rattle.tg_journal.specs.Answers.{PutSays};
-ghost use Rattle.tg_journal.specs.declared.answers.Put.TheVariants as Put;
-ghost use Rattle.tg_store.specs.Answers.{AreAnswers};
+ghost use Rattle.tg_graph.specs.Drafts.{Fits};
+ghost use Rattle.tg_store.specs.Answers.{AreAnswers, after_steps};
+ghost use Rattle.tg_store.specs.Overlays.{laid_over};
+ghost use Rattle.tg_store.specs.Offers.{OfferSays};
 ghost use Rattle.tg_store.specs.Running.{RunningSeat, seat_number, seat_from, seen_graph, IsSeat, GoesOn, PutsNothing};
 ghost use Rattle.tg_store.specs.Outcomes.{FindsForeign};
 ghost use Rattle.tg_store.specs.Looks.{is_found, LookSays};
@@ -17,7 +18,7 @@ use crate::replays;
 use std::alloc::{AllocError, Global};
 use std::marker::Model;
 use std::sync::Arc;
-use tg_graph::Graph;
+use tg_graph::{Draft, Graph, Ready};
 use tg_journal::{Front, Journal, MeetFault, Next, Pass, Put};
 
 /// A seat of a running store, for one thread. `Store::start` makes it, and it stays with that store.
@@ -52,6 +53,15 @@ pub enum Look {
     Nothing,
     /// At the place, a record of the seat's own number that it did not put.
     Foreign(usize),
+}
+
+/// What came of a record that a seat offered.
+#[derive(Drop)]
+pub enum Offered {
+    /// It stands at the place, and is taken in.
+    Won(Seat, usize),
+    /// It was not put, for this answer.
+    Back(Seat, Draft, Put),
 }
 
 // Whether a record was found.
@@ -169,7 +179,7 @@ impl Seat {
         }
         match look {
             Look::Foreign(place) => Err(place),
-            _ => Ok(()),
+            Look::Found | Look::Nothing => Ok(()),
         }
     }
 
@@ -184,38 +194,24 @@ impl Seat {
         self.taken += 1;
     }
 
-    // Lays the record at a place on the graph before it.
-    fn lay_at(
-        &self,
-        journal: &Journal<Record>,
-        place: usize,
-        graph: &mut Graph,
-    ) -> Result<(), AllocError>
-        requires cells { self.now.pass.cells ≡ journal.now }
-        requires seen { place < length self.now.pass.seen }
-        requires graph { graph_of graph.old ≡ seen_graph self.now place }
-        ensures { OnOk result (graph_of graph.new ≡ seen_graph self.now (place + 1)) }
+    // Takes in the next record that it has seen. An error changes nothing.
+    fn take_in_next(&mut self, journal: &Journal<Record>) -> Result<(), AllocError>
+        requires cells { self.old.pass.cells ≡ journal.now }
+        requires seen { self.old.taken < length self.old.pass.seen }
+        ensures pass { (self.new.opening ≡ self.old.opening) × (self.new.pass ≡ self.old.pass) }
+        ensures taken { OnOk result (self.new.taken ≡ self.old.taken + 1) }
+        ensures err { OnErr result (self.new.taken ≡ self.old.taken) }
+        ensures seat { IsSeat self.new }
     {
-        let Some(stored) = self.at(journal, place) else {
+        let Some(stored) = journal.at(&self.pass, self.taken) else {
             unreachable!()
         };
-        replays::lay_all(graph, stored.steps.as_slice())?;
+        replays::lay_all(&mut self.graph, stored.steps.as_slice())?;
+        self.taken += 1;
         Ok(())
     }
 
-    // The graph with all records on it that it has seen.
-    fn caught_up(&self, journal: &Journal<Record>) -> Result<Graph, AllocError>
-        requires { self.now.pass.cells ≡ journal.now }
-        ensures { IfOk result (λ g. graph_of g ≡ seen_graph self.now (length self.now.pass.seen)) }
-    {
-        let mut graph = self.graph().copy()?;
-        for place in self.taken()..self.seen() {
-            self.lay_at(journal, place, &mut graph)?;
-        }
-        Ok(graph)
-    }
-
-    // Takes in all records that it has seen. An error changes nothing.
+    // Takes in all records that it has seen. Where memory is refused, it has taken in some of them.
     pub(crate) fn take_in_all(&mut self, journal: &Journal<Record>) -> Result<(), AllocError>
         requires { self.old.pass.cells ≡ journal.now }
         ensures goes_on { GoesOn self.old self.new × PutsNothing self.old self.new }
@@ -223,28 +219,66 @@ impl Seat {
         ensures pass { self.new.pass ≡ self.old.pass }
         ensures all { OnOk result (self.new.taken ≡ length self.new.pass.seen) }
     {
-        let seen = self.seen();
-        if self.taken < seen {
-            let graph = self.caught_up(journal)?;
-            self.graph = graph;
-            self.taken = seen;
+        for _ in self.taken()..self.seen() {
+            self.take_in_next(journal)?;
         }
         Ok(())
     }
 
-    // Puts a record of its own, which is true where it stands, or sees the one that got there first.
-    pub(crate) fn offer(&mut self, journal: &Journal<Record>, stored: &Record) -> Put
-        requires cells { self.old.pass.cells ≡ journal.now }
-        requires number { (stored.now.seat ≡ self.old.pass.number) × (stored.now.number ≡ length self.old.pass.mine) }
-        requires answers { AreAnswers (graph_of self.old.graph) stored.now.steps }
-        requires all { self.old.taken ≡ length self.old.pass.seen }
-        ensures says { PutSays seat_number stored.now result self.old.pass self.new.pass }
-        ensures full { result ≡ Put.Full → length self.old.pass.seen ≡ length self.old.pass.cells }
-        ensures goes_on { GoesOn self.old self.new }
-        ensures copy { (self.new.taken ≡ self.old.taken) × (self.new.graph ≡ self.old.graph) }
-        ensures seat { IsSeat self.new }
+    // Puts a record of its own, which is true where it stands and whose draft this is, or sees the one that got there
+    // first. All room is made before.
+    pub(crate) fn offer(self, journal: &Journal<Record>, stored: &Record, draft: Draft) -> Offered
+        requires cells { self.pass.cells ≡ journal.now }
+        requires number { (stored.now.seat ≡ self.pass.number) × (stored.now.number ≡ length self.pass.mine) }
+        requires answers { AreAnswers (graph_of self.graph) stored.now.steps }
+        requires fits { Fits self.graph draft }
+        requires laid { laid_over self.graph draft ≡ after_steps (graph_of self.graph) stored.now.steps }
+        requires all { self.taken ≡ length self.pass.seen }
+        ensures { OfferSays self draft stored.now result }
     {
-        journal.put(&mut self.pass, stored)
+        let Seat {
+            opening,
+            mut pass,
+            taken,
+            graph,
+            alloc,
+        } = self;
+        let ready = match Ready::new(graph, draft) {
+            Ok(ready) => ready,
+            Err((graph, draft)) => {
+                let unready = Seat {
+                    opening,
+                    pass,
+                    taken,
+                    graph,
+                    alloc,
+                };
+                return Offered::Back(unready, draft, Put::Memory);
+            }
+        };
+        match journal.put(&mut pass, stored) {
+            Put::Won(place) => {
+                let further = Seat {
+                    opening,
+                    pass,
+                    taken: taken + 1,
+                    graph: ready.merge(),
+                    alloc,
+                };
+                Offered::Won(further, place)
+            }
+            answer => {
+                let (graph, draft) = ready.into_parts();
+                let back = Seat {
+                    opening,
+                    pass,
+                    taken,
+                    graph,
+                    alloc,
+                };
+                Offered::Back(back, draft, answer)
+            }
+        }
     }
 
     // Sees what the front has seen.

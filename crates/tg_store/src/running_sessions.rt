@@ -6,16 +6,16 @@ ghost use Rattle.tg_store.specs.Answers.{IsAnswer, after_steps};
 ghost use Rattle.tg_store.specs.Running.{RunningSession, IsSeat, IsSession};
 ghost use Rattle.tg_store.specs.Outcomes.{BeginSays, CommitSays, CommitFaultSays};
 ghost use Rattle.tg_store.specs.Attempts.{AttemptSays, IsNext};
+ghost use Rattle.tg_store.specs.declared.outcomes.Begun.TheVariants as Begun;
 ghost use Rattle.tg_store.specs.declared.weighing.Weighed.TheVariants as Weighed;
 
 use crate::answers::Steps;
-use crate::outcomes::{BeginFault, Begun, CommitFault, Committed, Receipt};
-use crate::overlays::Overlay;
+use crate::outcomes::{CommitFault, Committed, Receipt};
 use crate::records::Record;
-use crate::running_seats::{Look, Seat};
+use crate::running_seats::{Look, Offered, Seat};
 use crate::seats::OpenSession;
-use crate::weighing;
 use crate::weighing::Weighed;
+use crate::{replays, weighing};
 use std::alloc::AllocError;
 use std::marker::Model;
 use tg_graph::{Graph, Reply, Step};
@@ -50,15 +50,14 @@ pub enum Attempt {
 
 impl Session {
     // A session without steps.
-    pub(crate) fn open(seat: Seat) -> Begun
+    pub(crate) fn open(seat: Seat) -> Session
         requires { seat.taken ≡ length seat.pass.seen }
-        ensures { BeginSays seat result }
+        ensures { BeginSays seat (Begun.Session result) }
     {
+        // its contract says what is true of the seat
         let _ = seat.taken();
-        match OpenSession::new(seat.graph(), seat.alloc()) {
-            Ok(staged) => Begun::Session(Session { seat, staged }),
-            Err(_) => Begun::Refused(seat, BeginFault::Memory),
-        }
+        let staged = OpenSession::new(seat.graph(), seat.alloc());
+        Session { seat, staged }
     }
 
     /// Stages a step, and answers it. Where memory is refused, nothing is staged.
@@ -111,7 +110,7 @@ impl Session {
         let Session { mut seat, staged } = self;
         let _ = seat.taken();
         let _ = seat.graph().len();
-        match Overlay::with_steps(&graph, staged.kept.as_slice()) {
+        match replays::with_steps(&graph, staged.kept.as_slice()) {
             Ok(overlay) => {
                 seat.take_in(graph);
                 let kept = staged.kept;
@@ -149,7 +148,7 @@ impl Session {
         requires all { self.seat.taken ≡ length self.seat.pass.seen }
         ensures { AttemptSays self result }
     {
-        let Session { mut seat, staged } = self;
+        let Session { seat, staged } = self;
         let OpenSession { overlay, kept } = staged;
         let _ = seat.taken();
         let record = Record {
@@ -157,26 +156,22 @@ impl Session {
             number: seat.commits(),
             steps: Steps::from_vec(kept),
         };
-        let answer = seat.offer(journal, &record);
+        let offered = seat.offer(journal, &record, overlay);
         let kept = record.steps.into_vec();
-        match answer {
-            Put::Won(place) => {
-                let graph = overlay.into_whole(seat.graph());
-                seat.take_in(graph);
-                Attempt::Over(Committed::Done(seat, Receipt { place }))
+        match offered {
+            Offered::Won(seat, place) => Attempt::Over(Committed::Done(seat, Receipt { place })),
+            Offered::Back(seat, overlay, answer) => {
+                let staged = OpenSession { overlay, kept };
+                match answer {
+                    Put::Won(_) => unreachable!(),
+                    Put::Full => Attempt::Over(Committed::Refused(seat, CommitFault::JournalFull)),
+                    Put::Foreign(place) => {
+                        Attempt::Over(Committed::Refused(seat, CommitFault::Foreign(place)))
+                    }
+                    Put::Lost(_) => Attempt::Further(Session { seat, staged }),
+                    Put::Memory => Attempt::Over(Committed::Again(Session { seat, staged })),
+                }
             }
-            Put::Full => Attempt::Over(Committed::Refused(seat, CommitFault::JournalFull)),
-            Put::Foreign(place) => {
-                Attempt::Over(Committed::Refused(seat, CommitFault::Foreign(place)))
-            }
-            Put::Lost(_) => Attempt::Further(Session {
-                seat,
-                staged: OpenSession { overlay, kept },
-            }),
-            Put::Memory => Attempt::Over(Committed::Again(Session {
-                seat,
-                staged: OpenSession { overlay, kept },
-            })),
         }
     }
 

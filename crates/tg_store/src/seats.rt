@@ -14,16 +14,15 @@ ghost use Rattle.tg_store.specs.Worlds.{one_further, fresh_seat, Begins, TakesIn
 
 use crate::answers::{Answered, Steps};
 use crate::events::{HallFault, HallReply};
-use crate::overlays::Overlay;
 use crate::records::Record;
 use crate::{replays, spoilers};
 use std::alloc::{AllocError, Global};
-use tg_graph::{Graph, Refusal, Reply, Rule, Step};
+use tg_graph::{Draft, Graph, Refusal, Reply, Rule, Step};
 
 /// An open session: its own graph, and its steps with their replies.
 #[derive(Drop)]
 pub struct OpenSession {
-    pub(crate) overlay: Overlay,
+    pub(crate) overlay: Draft,
     pub(crate) kept: Vec<Answered>,
 }
 
@@ -85,14 +84,14 @@ impl OpenSession {
     ghost use Rattle.tg_store.specs.Seats.{IsSessionOn};
 
     /// A session without steps.
-    pub(crate) fn new(base: &Graph, alloc: Global) -> Result<OpenSession, AllocError>
-        ensures on { IfOk result (IsSessionOn base.now) }
-        ensures kept { IfOk result (λ o. o.kept.items ≡ []) }
+    pub(crate) fn new(base: &Graph, alloc: Global) -> OpenSession
+        ensures on { IsSessionOn base.now result }
+        ensures kept { result.kept.items ≡ [] }
     {
-        Ok(OpenSession {
-            overlay: Overlay::new(base)?,
+        OpenSession {
+            overlay: base.draft(),
             kept: Vec::new(alloc),
-        })
+        }
     }
 
     // Answers a step, and keeps it with its reply. An error changes no step.
@@ -106,7 +105,7 @@ impl OpenSession {
     {
         self.kept.reserve(1)?;
         let alloc = *self.kept.allocator();
-        let outcome = self.overlay.answer(alloc, base, step);
+        let outcome = replays::answer(alloc, base, &mut self.overlay, step);
         if let Ok(reply) = &outcome {
             keep(&mut self.kept, *step, *reply);
         }
@@ -165,14 +164,10 @@ impl SeatState {
         if self.session.is_some() {
             return HallReply::Refused(HallFault::AlreadyOpen);
         }
-        match Overlay::new(&self.graph) {
-            Ok(overlay) => {
-                let kept = Vec::new(self.alloc);
-                self.session = Some(OpenSession { overlay, kept });
-                HallReply::Done
-            }
-            Err(AllocError) => HallReply::Refused(HallFault::Memory),
-        }
+        let overlay = self.graph.draft();
+        let kept = Vec::new(self.alloc);
+        self.session = Some(OpenSession { overlay, kept });
+        HallReply::Done
     }
 
     /// Gives the open session up.
@@ -243,7 +238,7 @@ impl SeatState {
         let _ = self.graph.len();
         let graph = replays::copy_with(&self.graph, committed)?;
         if let Some(session) = &mut self.session {
-            session.overlay = Overlay::with_steps(&graph, session.kept.as_slice())?;
+            session.overlay = replays::with_steps(&graph, session.kept.as_slice())?;
         }
         self.graph = graph;
         Ok(())
@@ -332,7 +327,7 @@ impl SeatState {
 
     // What the records that are left, up to the first that ends the open session, make of the graph and of the
     // session's own, and how many they are. There is none without a session, a record that is left, or memory.
-    fn further(&self, records: &[Record]) -> Option<(Graph, Overlay, usize)>
+    fn further(&self, records: &[Record]) -> Option<(Graph, Draft, usize)>
         requires consistent { IsConsistent self.now }
         requires legal { IsLegal (graph_of self.now.graph) (drop self.now.taken records.now) }
         requires within { self.now.taken ≤ length records.now }
@@ -346,7 +341,7 @@ impl SeatState {
         let Ok((graph, count)) = clear_part(&self.graph, steps, &records[self.taken..]) else {
             return None;
         };
-        let Ok(overlay) = Overlay::with_steps(&graph, steps) else {
+        let Ok(overlay) = replays::with_steps(&graph, steps) else {
             return None;
         };
         Some((graph, overlay, count))
@@ -393,7 +388,13 @@ impl SeatState {
         let place = records.len();
         if let Some(session) = self.session.take() {
             let OpenSession { overlay, kept } = session;
-            self.graph = overlay.into_whole(&self.graph);
+            match self.graph.merge(overlay) {
+                Ok(()) => {}
+                Err(overlay) => {
+                    self.session = Some(OpenSession { overlay, kept });
+                    return HallReply::Refused(HallFault::Memory);
+                }
+            }
             records.push_reserved(Record {
                 seat: number,
                 number: self.commits,

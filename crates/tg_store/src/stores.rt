@@ -122,7 +122,7 @@ impl Store {
         if seat.take_in_all(&self.journal).is_err() {
             return Begun::Refused(seat, BeginFault::Memory);
         }
-        Session::open(seat)
+        Begun::Session(Session::open(seat))
     }
 
     /// Takes in the records that are left, one at a time, and puts the session after them.

@@ -1,9 +1,11 @@
 //! A record that a session comes upon, of which it is not known whether it is true.
 ghost use Rattle.std.specs.Prelude.{◌≡◌, ◌↔◌, ◌<◌, ◌+◌, All, IsTrue, IfOk, OnOk, None, find, length, count_by};
+ghost use Rattle.tg_graph.specs.Drafts.{Fits};
 ghost use Rattle.tg_graph.specs.GraphOf.{graph_of};
 ghost use Rattle.tg_graph.specs.Limits.{most_vertices};
 ghost use Rattle.tg_store.specs.StepWords.{IsNamedStep};
 ghost use Rattle.tg_store.specs.Answers.{AreAnswers, after_step, after_steps};
+ghost use Rattle.tg_store.specs.Overlays.{laid_over};
 ghost use Rattle.tg_store.specs.Touches.{touches, step_writes, spoiler};
 ghost use Rattle.tg_store.specs.Told.{tells_creation};
 ghost use Rattle.tg_store.specs.Weighing.{Weighs};
@@ -12,7 +14,7 @@ use crate::answers::Answered;
 use crate::outcomes::CommitFault;
 use crate::{replays, spoilers};
 use std::alloc::AllocError;
-use tg_graph::{Graph, MOST_VERTICES, Name, Step};
+use tg_graph::{Draft, Graph, MOST_VERTICES, Name, Step};
 
 /// What a record is to a session.
 #[derive(Drop)]
@@ -23,37 +25,44 @@ pub enum Weighed {
     Ends(CommitFault),
 }
 
-// Lays a step on a graph, and says the first name that it writes and that the session touches.
+// Lays a step on a draft, and says the first name that it writes and that the session touches.
 fn lay_watched(
-    graph: &mut Graph,
+    base: &Graph,
+    draft: &mut Draft,
     step: &Step,
     session: &[Answered],
 ) -> Result<Option<Name>, AllocError>
-    requires { IsNamedStep step.now }
-    ensures graph { OnOk result (graph_of graph.new ≡ after_step (graph_of graph.old) step.now) }
-    ensures name { IfOk result (λ name. name ≡ find (touches session.now) (step_writes (graph_of graph.old) step.now)) }
+    requires fits { Fits base.now draft.old }
+    requires named { IsNamedStep step.now }
+    ensures laid { OnOk result (laid_over base.now draft.new ≡ after_step (laid_over base.now draft.old) step.now) }
+    ensures fits { Fits base.now draft.new }
+    ensures name { IfOk result (λ name. name ≡ find (touches session.now) (step_writes (laid_over base.now draft.old) step.now)) }
 {
     match *step {
         Step::Do(rule) => {
-            let reply = replays::carry_out(graph, &rule)?;
+            let reply = replays::carry_out(base, draft, &rule)?;
             Ok(spoilers::spoiler_in(&Answered::new(*step, reply), session))
         }
         Step::Holds { .. } | Step::Share { .. } => Ok(None),
     }
 }
 
-// Lays steps on a graph, and says the first name that they write and that the session touches. There it stops.
+// Lays steps on a draft, and says the first name that they write and that the session touches. There it stops.
 fn lay_all_watched(
-    graph: &mut Graph,
+    base: &Graph,
+    draft: &mut Draft,
     committed: &[Answered],
     session: &[Answered],
 ) -> Result<Option<Name>, AllocError>
-    requires { All (λ a. IsNamedStep a.step) committed.now }
-    ensures name { IfOk result (λ name. name ≡ spoiler (graph_of graph.old) committed.now session.now) }
-    ensures graph { IfOk result (λ name. name ≡ None → graph_of graph.new ≡ after_steps (graph_of graph.old) committed.now) }
+    requires fits { Fits base.now draft.old }
+    requires named { All (λ a. IsNamedStep a.step) committed.now }
+    ensures name { IfOk result (λ name. name ≡ spoiler (laid_over base.now draft.old) committed.now session.now) }
+    ensures laid { IfOk result (λ name.
+        name ≡ None → laid_over base.now draft.new ≡ after_steps (laid_over base.now draft.old) committed.now) }
+    ensures fits { Fits base.now draft.new }
 {
     for answered in committed {
-        let name = lay_watched(graph, &answered.step, session)?;
+        let name = lay_watched(base, draft, &answered.step, session)?;
         if name.is_some() {
             return Ok(name);
         }
@@ -61,12 +70,14 @@ fn lay_all_watched(
     Ok(None)
 }
 
-// Whether a graph has too many vertices, together with those that the session creates.
-fn overfills(graph: &Graph, session: &[Answered]) -> bool
-    ensures { IsTrue result ↔ (most_vertices < length (graph_of graph.now).vertices + count_by tells_creation session.now) }
+// Whether what a draft makes of a graph has too many vertices, together with those that the session creates.
+fn overfills(base: &Graph, draft: &Draft, session: &[Answered]) -> bool
+    requires { Fits base.now draft.now }
+    ensures { IsTrue result ↔
+        (most_vertices < length (laid_over base.now draft.now).vertices + count_by tells_creation session.now) }
 {
-    graph
-        .len()
+    base.len()
+        .saturating_add(draft.created())
         .saturating_add(spoilers::creation_count(session))
         > MOST_VERTICES
 }
@@ -82,13 +93,14 @@ pub fn weigh(
     requires session { AreAnswers (graph_of base.now) session.now }
     ensures { IfOk result (Weighs (graph_of base.now) place committed.now session.now) }
 {
+    // its contract says that no vertex is there twice
     let _ = base.len();
-    let mut graph = base.copy()?;
-    if let Some(name) = lay_all_watched(&mut graph, committed, session)? {
+    let mut draft = base.draft();
+    if let Some(name) = lay_all_watched(base, &mut draft, committed, session)? {
         return Ok(Weighed::Ends(CommitFault::Changed { place, name }));
     }
-    if overfills(&graph, session) {
+    if overfills(base, &draft, session) {
         return Ok(Weighed::Ends(CommitFault::Crowded { place }));
     }
-    Ok(Weighed::Clear(graph))
+    Ok(Weighed::Clear(draft.whole(base)?))
 }

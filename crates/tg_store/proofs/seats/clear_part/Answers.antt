@@ -37,7 +37,7 @@ loop-count-preserved c =
     let fits : name_count ((after_steps g committed).vertices ++ creates g steps) ≤ most_vertices = let h = clear.1 in omega (arith, h) in
     let there = subst (λ g. IsClear g r.steps (Some steps)) inv.laid (subst (λ ss. IsClear g ss (Some steps)) same clear) in
     record {
-      laid = c.in_ok-lay_all.ensures ∙ ap (after_steps g) same ∙ ap (λ g. after_steps g r.steps) inv.laid ∙ sym (replay-next b records i r is);
+      laid = c.in_ok-lay_all.ensures.laid ∙ ap (after_steps g) same ∙ ap (λ g. after_steps g r.steps) inv.laid ∙ sym (replay-next b records i r is);
       clear = clear-more b steps records i r is inv.clear there;
-      answers = subst (λ g. AreAnswers g steps) (sym c.in_ok-lay_all.ensures) (answers-clear g committed steps c.len.ensures.graph.apart clear.0 fits inv.answers);
+      answers = subst (λ g. AreAnswers g steps) (sym c.in_ok-lay_all.ensures.laid) (answers-clear g committed steps c.len.ensures.graph.apart clear.0 fits inv.answers);
     }

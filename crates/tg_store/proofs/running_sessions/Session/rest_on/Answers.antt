@@ -25,9 +25,9 @@ invariant_of-result c =
     let s = c.self.inside.seat in
     let o = c.self.inside.staged in
     let apart = subst (λ rows. IsDistinct bytes_eq (graph_of rows).vertices) c.graph.ensures.value c.len.ensures.graph.apart in
-    let laid = c.in-Ok.ensures ∙ ap (after_steps (graph_of c.args.graph)) c.as_slice.ensures.value in
+    let laid = c.in-Ok.ensures.laid ∙ ap (after_steps (graph_of c.args.graph)) c.as_slice.ensures.value in
     subst (λ (u : RunningSeat). IsSessionOn u.graph (record { overlay = c.in-Ok.overlay; kept = o.kept })) (sym c.take_in.ensures.value)
-    (session-clear s.graph c.args.graph n.0.steps o (record { overlay = c.in-Ok.overlay; kept = o.kept }) c.self.invariant refl apart n.2.1 n.2.0 laid)
+    (session-clear s.graph c.args.graph n.0.steps o (record { overlay = c.in-Ok.overlay; kept = o.kept }) c.self.invariant refl apart n.2.1 n.2.0 laid c.in-Ok.ensures.fits)
 
 pub returns-in-Ok : goal.returns-in-Ok
 returns-in-Ok c =
@@ -36,9 +36,9 @@ returns-in-Ok c =
     let u = c.take_in.new.self in
     let o = c.self.inside.staged in
     let apart = subst (λ rows. IsDistinct bytes_eq (graph_of rows).vertices) c.graph.ensures.value c.len.ensures.graph.apart in
-    let laid = c.in-Ok.ensures ∙ ap (after_steps (graph_of c.args.graph)) c.as_slice.ensures.value in
+    let laid = c.in-Ok.ensures.laid ∙ ap (after_steps (graph_of c.args.graph)) c.as_slice.ensures.value in
     let on = subst (λ (u : RunningSeat). IsSessionOn u.graph (record { overlay = c.in-Ok.overlay; kept = o.kept })) (sym c.take_in.ensures.value)
-    (session-clear s.graph c.args.graph n.0.steps o (record { overlay = c.in-Ok.overlay; kept = o.kept }) c.self.invariant refl apart n.2.1 n.2.0 laid) in
+    (session-clear s.graph c.args.graph n.0.steps o (record { overlay = c.in-Ok.overlay; kept = o.kept }) c.self.invariant refl apart n.2.1 n.2.0 laid c.in-Ok.ensures.fits) in
     subst (λ s. AttemptSays s (Further (record { seat = u; steps = o.kept.items }))) c.self.view_is
     (rested s u o.kept.items n.0 c.taken.ensures.seat n.1 n.2.0
     (ap (λ (s : RunningSeat). s.opening) c.take_in.ensures.value) (ap (λ (s : RunningSeat). s.pass) c.take_in.ensures.value) (ap (λ (s : RunningSeat). s.taken) c.take_in.ensures.value)

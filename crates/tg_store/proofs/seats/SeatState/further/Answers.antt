@@ -18,5 +18,6 @@ returns c =
       session = session;
       is_open = sym c.in_ok-session.ensures.value;
       part = subst (λ rs. IsClearPart b session.kept.items rs c.in-Ok.count graph) left (subst (λ steps. IsClearPart b steps (take (length records - s.taken) (drop s.taken records)) c.in-Ok.count graph) kept c.in-Ok.ensures);
-      laid = c.in-Ok-with_steps.ensures ∙ ap (after_steps graph) kept;
+      fits = c.in-Ok-with_steps.ensures.fits;
+      laid = c.in-Ok-with_steps.ensures.laid ∙ ap (after_steps graph) kept;
     }

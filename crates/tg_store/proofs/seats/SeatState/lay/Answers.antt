@@ -21,7 +21,7 @@ returns-clause-consistent c =
           (session-clear base next c.args.committed.now o (record { overlay = w.in_ok-session.field-0; kept = o.kept })
           (subst (λ s. IfSome s (IsSessionOn base)) w.in-Some.is c.requires.consistent) (λ i. o.kept.items) c.len.ensures.graph.apart c.in_ok-graph.ensures
           (subst (λ s. IsClear (graph_of base) c.args.committed.now (option_map (λ (o : OpenSession). o.kept.items) s)) w.in-Some.is c.requires.clear)
-          (w.in_ok-session.ensures ∙ ap (after_steps (graph_of next)) w.as_slice.ensures.value))
+          (w.in_ok-session.ensures.laid ∙ ap (after_steps (graph_of next)) w.as_slice.ensures.value) w.in_ok-session.ensures.fits)
       | in_default w ↦
           subst (λ (s : SeatState). IfSome s.session (IsSessionOn next)) (sym w.self-is) (subst (λ s. IfSome s (IsSessionOn next)) (sym w.in_default.is) tt)
     ]
