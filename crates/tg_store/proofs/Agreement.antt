@@ -4,7 +4,7 @@ use Rattle.std.specs.Prelude.{find, if◌then◌else◌, nat_le, ⊤}
 use Rattle.std.specs.List.{list_any}
 use Rattle.std.proofs.lemmas.List.{length-append, append-nil}
 use Rattle.std.proofs.lemmas.List.Folds.{list_any-append}
-use Rattle.std.proofs.lemmas.Bool.{or_left, or_right}
+use Rattle.std.proofs.lemmas.Bool.{or_left, or_right, or_parts}
 use Rattle.std.proofs.Math.Bool.{or-false, and-true}
 use Rattle.std.proofs.lemmas.Bool.Decides.{nat_tests}
 use Rattle.tg_graph.specs.declared.right_sets.Right.{Right}
@@ -26,9 +26,10 @@ use Rattle.tg_graph.proofs.Rows.{same_bytes}
 use Rattle.tg_graph.proofs.Same.{refusal-same, after-same}
 use Rattle.tg_analysis.proofs.NameTests.{same_refl}
 use Rattle.tg_graph.specs.Limits.{most_vertices}
+use Rattle.tg_graph.specs.Drafts.{written_by}
 use Rattle.tg_store.specs.declared.answers.Answered.{Answered}
 use Rattle.tg_store.specs.Answers.{IsAnswer, AreAnswers, session_refusal, lack_of_room, or_else, unknown_of_two, reply_unless, after_step, after_steps}
-use Rattle.tg_store.specs.Touches.{written_by, step_writes, writes, step_touches, reply_touches, touches, step_creates, creates}
+use Rattle.tg_store.specs.Touches.{step_writes, writes, step_touches, reply_touches, touches, step_creates, creates}
 
 -- the rows of the names that pass the test are the same, each of them is a vertex of both or of none, and each vertex of g is one of h
 pub record Agree (test : Name → Bool) (g h : ProtectionGraph) : Type 0 where
@@ -100,6 +101,22 @@ apart_right : (test : Name → Bool) (vs ws : List Name) → Apart test (vs ++ w
 unfolding Apart
 apart_right test [] ws p = p
 apart_right test (v ∷ vs) ws p = apart_right test vs ws p.1
+
+-- a name that passes the test is not among them
+pub apart-among : (test : Name → Bool) (vs : List Name) (v : Name) → Apart test vs → test v ≡ true → list_any (same_name v) vs ≡ false
+unfolding Apart
+apart-among test [] v p t = refl
+apart-among test (w ∷ vs) v p t = by (same_name v w) refl (apart-among test vs v p.1 t)
+  where
+    by : (b : Bool) → same_name v w ≡ b → list_any (same_name v) vs ≡ false → (b || list_any (same_name v) vs) ≡ false
+    by true e h = absurd (true≢false (sym t ∙ ap test (same_bytes v w e) ∙ p.0))
+    by false e h = h
+
+-- a name is apart from a list that has it not
+pub apart-none : (v : Name) (vs : List Name) → list_any (same_name v) vs ≡ false → Apart (same_name v) vs
+unfolding Apart
+apart-none v [] h = tt
+apart-none v (w ∷ vs) h = let p = or_parts (same_name v w) (list_any (same_name v) vs) h in (p.0, apart-none v vs p.1)
 
 module _ (test : Name → Bool) where
   other : (u x : Name) → test u ≡ true → test x ≡ false → same_name u x ≡ false
@@ -245,6 +262,7 @@ module _ (test : Name → Bool) where
       answer : IsAnswer h step reply
       agree : Agree test (after_step g step) (after_step h step)
       creations : step_creates g step ≡ step_creates h step
+      writings : step_writes g step ≡ step_writes h step
 
     covers_reply : (reply : Reply) (r : Option Refusal) (other : Reply) → reply ≡ reply_unless r other → ((u : Name) → reply_touches reply u ≡ true → test u ≡ true) → Covers r
     unfolding Covers
@@ -257,13 +275,13 @@ module _ (test : Name → Bool) where
     alike (Do rule) reply t tr le fit e =
         let covers : Covers (refusal_of g rule) = λ v is. covers_reply reply (session_refusal g rule) Done e tr v (ap (λ r. or_else r (lack_of_room g rule)) is) in
         let same : session_refusal g rule ≡ session_refusal h rule = session_refusal-agrees rule (refusal-agrees rule t covers) le fit in
-        record { answer = e ∙ ap (λ r. reply_unless r Done) same; agree = next-agrees rule same; creations = creates-agrees rule same }
+        record { answer = e ∙ ap (λ r. reply_unless r Done) same; agree = next-agrees rule same; creations = creates-agrees rule same; writings = ap (λ r. if is_none r then written_by rule else []) same }
     alike (Holds right x y) reply t tr le fit e =
         let tx : test x ≡ true = t x (same_refl x) in
         let covers : Covers (unknown_of_two g x y) = covers_reply reply (unknown_of_two g x y) (if g.holds x right y then Yes else No) e tr in
         let same : unknown_of_two g x y ≡ unknown_of_two h x y = on x _ _ covers (λ c. on y _ _ c (λ c. refl)) in
-        record { answer = e ∙ (λ i. reply_unless (same i) (if a.rows x tx right y i then Yes else No)); agree = a; creations = refl }
-    alike (Share right x y) reply t tr le fit e = record { answer = by reply e; agree = a; creations = refl }
+        record { answer = e ∙ (λ i. reply_unless (same i) (if a.rows x tx right y i then Yes else No)); agree = a; creations = refl; writings = refl }
+    alike (Share right x y) reply t tr le fit e = record { answer = by reply e; agree = a; creations = refl; writings = refl }
       where
         all : (u : Name) → test u ≡ true
         all u = t u refl
@@ -280,9 +298,16 @@ module _ (test : Name → Bool) where
         by (Refused refusal) e = sym same ∙ e
         by Done e = e
 
-  -- a session's replies are the same on a graph that agrees on what it touches and has room for what it creates
-  pub keeps : (g h : ProtectionGraph) (steps : List Answered) → Agree test g h → ((u : Name) → touches steps u ≡ true → test u ≡ true) → length g.vertices ≤ length h.vertices → length h.vertices + length (creates g steps) ≤ most_vertices → AreAnswers g steps → AreAnswers h steps
-  keeps g h [] a t le fit e = tt
+  -- what the steps of a session do on both graphs
+  pub record AlikeAlong (g h : ProtectionGraph) (steps : List Answered) : Type 0 where
+    pub answers : AreAnswers h steps
+    pub agree : Agree test (after_steps g steps) (after_steps h steps)
+    pub creations : creates g steps ≡ creates h steps
+    pub writings : writes g steps ≡ writes h steps
+
+  -- they do the same on a graph that agrees on what they touch and has room for what they create
+  pub keeps : (g h : ProtectionGraph) (steps : List Answered) → Agree test g h → ((u : Name) → touches steps u ≡ true → test u ≡ true) → length g.vertices ≤ length h.vertices → length h.vertices + length (creates g steps) ≤ most_vertices → AreAnswers g steps → AlikeAlong g h steps
+  keeps g h [] a t le fit e = record { answers = tt; agree = a; creations = refl; writings = refl }
   keeps g h (b ∷ rest) a t le fit e =
       let more = length-append (step_creates g b.step) (creates (after_step g b.step) rest) in
       let here : Alike g h a b.step b.reply =
@@ -291,9 +316,14 @@ module _ (test : Name → Bool) where
       (λ u k. t u (or_left (step_touches b.step u || reply_touches b.reply u) (touches rest u) (or_right (step_touches b.step u) (reply_touches b.reply u) k)))
       le (omega (arith, more)) e.0 in
       let lg = ap length (vertices-step g b.step) ∙ length-append g.vertices (step_creates g b.step) in
-      let lh = ap length (vertices-step h b.step ∙ ap (λ vs. h.vertices ++ vs) (sym here.creations)) ∙ length-append h.vertices (step_creates g b.step) in (
-        here.answer,
-        keeps (after_step g b.step) (after_step h b.step) rest here.agree
-            (λ u k. t u (or_right (step_touches b.step u || reply_touches b.reply u) (touches rest u) k))
-            (omega (arith, lg, lh)) (omega (arith, lh, more)) e.1,
-      )
+      let lh = ap length (vertices-step h b.step ∙ ap (λ vs. h.vertices ++ vs) (sym here.creations)) ∙ length-append h.vertices (step_creates g b.step) in
+      let later : AlikeAlong (after_step g b.step) (after_step h b.step) rest =
+      keeps (after_step g b.step) (after_step h b.step) rest here.agree
+      (λ u k. t u (or_right (step_touches b.step u || reply_touches b.reply u) (touches rest u) k))
+      (omega (arith, lg, lh)) (omega (arith, lh, more)) e.1 in
+      record {
+        answers = (here.answer, later.answers);
+        agree = later.agree;
+        creations = λ i. here.creations i ++ later.creations i;
+        writings = λ i. here.writings i ++ later.writings i;
+      }

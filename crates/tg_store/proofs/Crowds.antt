@@ -19,7 +19,7 @@ use Rattle.tg_store.specs.declared.answers.Answered.{Answered}
 use Rattle.tg_store.specs.Answers.{AreAnswers, session_refusal, lack_of_room, or_else, after_step, after_steps}
 use Rattle.tg_store.specs.Touches.{writes, step_touches, reply_touches, touches, step_creates, creates, spoiler, name_count}
 use Rattle.tg_analysis.proofs.NameTests.{same_refl}
-use Rattle.tg_store.proofs.Agreement.{Agree, agree_self, apart_find, untouched-steps, vertices-step, vertices-steps, keeps}
+use Rattle.tg_store.proofs.Agreement.{Agree, AlikeAlong, agree_self, apart_find, untouched-steps, vertices-step, vertices-steps, keeps}
 
 -- ---- lists without repeats
 none_equal : (v : Name) (vs : List Name) → AllByRecursion (λ w. bytes_eq v w ≡ false) vs → list_any (same_name v) vs ≡ false
@@ -95,8 +95,8 @@ module _ (g : ProtectionGraph) (committed session : List Answered) (d : IsDistin
       let m = ap length (vertices-steps g committed) ∙ length-append g.vertices (creates g committed) in
       omega (arith, e, n, m)
 
-  -- the session's replies stay true
-  pub answers-clear : name_count ((after_steps g committed).vertices ++ creates g session) ≤ most_vertices → AreAnswers g session → AreAnswers (after_steps g committed) session
-  answers-clear fit h =
+  -- the session does the same after the record
+  pub alike-clear : name_count ((after_steps g committed).vertices ++ creates g session) ≤ most_vertices → AreAnswers g session → AlikeAlong (touches session) g (after_steps g committed) session
+  alike-clear fit h =
       let m = ap length (vertices-steps g committed) ∙ length-append g.vertices (creates g committed) in
       keeps (touches session) g (after_steps g committed) session agree (λ u k. k) (omega (arith, m)) (omega (arith, m, name_count-apart, fit)) h

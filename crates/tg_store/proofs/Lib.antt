@@ -2,11 +2,11 @@ pub mod Ordered
 pub mod Told
 pub mod Agreement
 pub mod Crowds
+pub mod Commuting
 pub mod SeatLemmas
 pub mod Numbers
 pub mod HallLemmas
 pub mod RunLemmas
-pub mod Learning
 pub mod Weighed
 pub mod RunningSeats
 pub mod RunningSessions

@@ -24,7 +24,8 @@ use Rattle.tg_store.specs.Outcomes.{NoneObstructs, IsPut, CommitSays, CommitFaul
 use Rattle.tg_store.specs.Attempts.{progress}
 use Rattle.tg_store.specs.Offers.{IsNotWon, OfferSays}
 use Rattle.tg_store.specs.declared.running_seats.Offered.TheVariants.{Won, Back}
-use Rattle.tg_graph.specs.Drafts.{Changes}
+use Rattle.tg_graph.specs.Drafts.{Changes, laid_over}
+use Rattle.tg_store.specs.Drafted.{drafted, IsDraftOf}
 use Rattle.tg_journal.specs.declared.answers.Put.{Put}
 use Rattle.tg_store.proofs.Ordered.{replay-next}
 use Rattle.tg_store.proofs.RunningSeats.{begins-refl, begins-back, graph-kept, goes_on-refl, goes_on-trans, goes_on-taken, get-push, seat-at, seat-put, seat-not-won, put-goes_on}
@@ -86,6 +87,9 @@ commit-start s h = (goes_on-refl s.seat, refl, none-yet s.seat s.steps s.seat.ta
 -- ---- the next record
 pub next-graph : (s : RunningSeat) (r : Record) (rows : Entries) → IsSeat s → slice_get s.pass.seen s.taken ≡ Some r → graph_of rows ≡ after_steps (graph_of s.graph) r.steps → graph_of rows ≡ seen_graph s (s.taken + 1)
 next-graph s r rows h is e = e ∙ ap (λ g. after_steps g r.steps) h.replayed ∙ sym (replay-next (graph_of s.opening) s.pass.seen s.taken r is)
+
+pub next-draft : (s : RunningSeat) (r : Record) (draft : Changes) → IsSeat s → slice_get s.pass.seen s.taken ≡ Some r → IsDraftOf s.graph r.steps draft → drafted s.graph draft ≡ seen_graph s (s.taken + 1)
+next-draft s r draft h is d = next-graph s r (laid_over s.graph draft) h is d.stands
 
 -- ---- a record that was put
 module _ (s t : RunningSeat) (steps : List Answered) (r : Record) (place : ℕ) (all : s.taken ≡ length s.pass.seen) (taken : t.taken ≡ s.taken) (says : PutSays seat_number r (put.Won place) s.pass t.pass) where

@@ -1,14 +1,16 @@
 -- What the calls of a seat keep.
-use Rattle.std.proofs.Common.{◌≡◌, ◌+◌, ◌≤◌, ◌++◌, List, [], ◌∷◌, length, take, Some, All, sym, ap, subst, ◌∙◌, arith, bytes_eq}
+use Rattle.std.proofs.Common.{◌≡◌, Option, None, IfSome, ◌+◌, ◌≤◌, ◌++◌, List, [], ◌∷◌, length, take, Some, All, sym, ap, subst, ◌∙◌, arith, bytes_eq}
 use Rattle.std.specs.Prelude.{slice_get}
+use Rattle.std.specs.Option.{option_map}
 use Rattle.std.proofs.lemmas.List.{length-append, take-append-le, take_all}
 use Rattle.std.proofs.lemmas.List.Elements.{All-push}
 use Rattle.std.proofs.lemmas.Option.{slice_get_within}
 use Rattle.std.specs.List.{IsDistinct}
+use Rattle.std.specs.Map.{keys_of}
 use Rattle.tg_graph.specs.Rows.{Entries}
 use Rattle.tg_graph.specs.Graphs.{ProtectionGraph}
 use Rattle.tg_graph.specs.GraphOf.{graph_of}
-use Rattle.tg_graph.specs.Limits.{most_vertices}
+use Rattle.tg_graph.specs.Drafts.{Changes, laid_over, Fits, IsDraft}
 use Rattle.tg_store.specs.declared.answers.Answered.{Answered}
 use Rattle.tg_store.specs.declared.records.Record.{Record}
 use Rattle.tg_store.specs.declared.seats.OpenSession.{OpenSession}
@@ -16,34 +18,42 @@ use Rattle.tg_store.specs.declared.seats.SeatState.{SeatState}
 use Rattle.tg_store.specs.StepWords.{IsNamedStep}
 use Rattle.tg_store.specs.Answers.{IsAnswer, AreAnswers, after_step, after_steps}
 use Rattle.tg_store.specs.Histories.{replay}
-use Rattle.tg_store.specs.Touches.{IsClear, name_count, creates}
-use Rattle.tg_graph.specs.Drafts.{Fits}
-use Rattle.tg_store.specs.Overlays.{laid_over}
+use Rattle.tg_store.specs.Touches.{IsClear, step_writes}
+use Rattle.tg_store.specs.Drafted.{drafted, GainsRows, IsDraftOf}
 use Rattle.tg_store.specs.Seats.{IsSessionOn, Rests}
 use Rattle.tg_store.proofs.Ordered.{after_steps-push, AreAnswers-push, replay-next, replay-push}
-use Rattle.tg_store.proofs.Crowds.{answers-clear}
+use Rattle.tg_store.proofs.Commuting.{rows-more, draft-clear, answers-clear}
+
+-- a draft with one step more
+pub draft-push : (base : Entries) (steps : List Answered) (old new : Changes) (a : Answered) → IsDraftOf base steps old → IsDraft new → Fits base new → drafted base new ≡ after_step (drafted base old) a.step
+    → GainsRows old (step_writes (drafted base old) a.step) new → IsDraftOf base (steps ++ a ∷ []) new
+draft-push base steps old new a d sound fits next rows = record {
+  sound = sound;
+  fits = fits;
+  stands = next ∙ ap (λ g. after_step g a.step) d.stands ∙ sym (after_steps-push (graph_of base) steps a);
+  rows = rows-more base steps a old new d.stands d.rows rows;
+}
 
 -- a session with one step more
-pub session-push : (base : Entries) (o p : OpenSession) (a : Answered) → IsSessionOn base o → p.kept.items ≡ o.kept.items ++ a ∷ [] → laid_over base p.overlay ≡ after_step (laid_over base o.overlay) a.step → IsAnswer (laid_over base o.overlay) a.step a.reply → IsNamedStep a.step → Fits base p.overlay → IsSessionOn base p
-session-push base o p a on e next told named fits = record {
-  fits = fits;
-  laid = next ∙ ap (λ g. after_step g a.step) on.laid ∙ sym (after_steps-push (graph_of base) o.kept.items a) ∙ ap (after_steps (graph_of base)) (sym e);
-  answers = subst (AreAnswers (graph_of base)) (sym e) (AreAnswers-push (graph_of base) o.kept.items a on.answers (subst (λ g. IsAnswer g a.step a.reply) on.laid told));
+pub session-push : (base : Entries) (o p : OpenSession) (a : Answered) → IsSessionOn base o → p.kept.items ≡ o.kept.items ++ a ∷ [] → IsDraftOf base (o.kept.items ++ a ∷ []) p.draft → IsAnswer (drafted base o.draft) a.step a.reply → IsNamedStep a.step → IsSessionOn base p
+session-push base o p a on e drawn told named = record {
+  drawn = subst (λ steps. IsDraftOf base steps p.draft) (sym e) drawn;
+  answers = subst (AreAnswers (graph_of base)) (sym e) (AreAnswers-push (graph_of base) o.kept.items a on.answers (subst (λ g. IsAnswer g a.step a.reply) on.drawn.stands told));
   named = subst (All (λ a. IsNamedStep a.step)) (sym e) (All-push (λ a. IsNamedStep a.step) o.kept.items a on.named named);
 }
 
 -- a session that rests on a record as well
-pub session-clear : (base next : Entries) (committed : List Answered) (o p : OpenSession) → IsSessionOn base o → p.kept.items ≡ o.kept.items → IsDistinct bytes_eq (graph_of base).vertices
-    → graph_of next ≡ after_steps (graph_of base) committed → IsClear (graph_of base) committed (Some o.kept.items) → laid_over next p.overlay ≡ after_steps (graph_of next) o.kept.items → Fits next p.overlay → IsSessionOn next p
-session-clear base next committed o p on e apart is clear laid suits = record {
-  fits = suits;
-  laid = laid ∙ ap (after_steps (graph_of next)) (sym e);
-  answers = subst (AreAnswers (graph_of next)) (sym e) (subst (λ g. AreAnswers g o.kept.items) (sym is) (answers-clear (graph_of base) committed o.kept.items apart clear.0 fits on.answers));
-  named = subst (All (λ a. IsNamedStep a.step)) (sym e) on.named;
+pub session-clear : (base : Entries) (committed : List Answered) (theirs : Changes) (o : OpenSession) → IsDraftOf base committed theirs → IsSessionOn base o → IsClear (graph_of base) committed (Some o.kept.items) → IsDistinct bytes_eq (keys_of base) → IsSessionOn (laid_over base theirs) o
+session-clear base committed theirs o le on clear distinct = record {
+  drawn = draft-clear base committed o.kept.items theirs o.draft le on.drawn clear distinct on.answers;
+  answers = answers-clear base committed o.kept.items theirs o.draft le on.drawn clear distinct on.answers;
+  named = on.named;
 }
-  where
-    fits : name_count ((after_steps (graph_of base) committed).vertices ++ creates (graph_of base) o.kept.items) ≤ most_vertices
-    fits = let h = clear.1 in omega (arith, h)
+
+pub seat-clear : (base : Entries) (committed : List Answered) (theirs : Changes) (session : Option OpenSession) → IsDraftOf base committed theirs → IfSome session (IsSessionOn base)
+    → IsClear (graph_of base) committed (option_map (λ (o : OpenSession). o.kept.items) session) → IsDistinct bytes_eq (keys_of base) → IfSome session (IsSessionOn (laid_over base theirs))
+seat-clear base committed theirs None le on clear distinct = tt
+seat-clear base committed theirs (Some o) le on clear distinct = session-clear base committed theirs o le on clear distinct
 
 -- a seat that has taken in one record more
 pub rests-next : (g : ProtectionGraph) (history : List Record) (s t : SeatState) (r : Record) → slice_get history s.taken ≡ Some r → t.taken ≡ s.taken + 1 → graph_of t.graph ≡ after_steps (graph_of s.graph) r.steps → Rests g history s → Rests g history t

@@ -13,9 +13,10 @@ use Rattle.tg_graph.specs.declared.session.Reply.{Reply}
 use Rattle.tg_graph.specs.declared.session.Reply.TheVariants.{Done}
 use Rattle.tg_graph.specs.Graphs.{Name, ProtectionGraph}
 use Rattle.tg_graph.specs.Rules.{after}
+use Rattle.tg_graph.specs.Drafts.{written_by}
 use Rattle.tg_store.specs.declared.answers.Answered.{Answered}
 use Rattle.tg_store.specs.Answers.{IsAnswer, AreAnswers, session_refusal, reply_unless, after_step, after_steps}
-use Rattle.tg_store.specs.Touches.{written_by, step_writes, writes, step_creates, creates}
+use Rattle.tg_store.specs.Touches.{step_writes, writes, step_creates, creates}
 use Rattle.tg_store.specs.Told.{is_done, told_writes, all_told_writes, tells_creation, tells_change}
 
 -- a true reply to a rule is Done exactly if the rule was accepted

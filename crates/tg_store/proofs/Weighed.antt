@@ -1,10 +1,15 @@
 -- Records laid on a graph while a session watches.
-use Rattle.std.proofs.Common.{◌≡◌, ℕ, suc, ◌+◌, ◌<◌, Bool, true, false, List, [], ◌∷◌, ◌++◌, length, drop, get_or, Option, None, Some, is_some, refl, sym, ap, ◌∙◌, arith, true≢false, bytes_eq}
+use Rattle.std.proofs.Common.{◌≡◌, ℕ, suc, ◌+◌, ◌<◌, Bool, true, false, List, [], ◌∷◌, ◌++◌, length, take, drop, get_or, Option, None, Some, is_some, refl, sym, ap, ◌∙◌, arith, true≢false, bytes_eq}
 use Rattle.std.specs.Prelude.{find, count_by, if◌then◌else◌}
-use Rattle.std.specs.List.{IsDistinct}
+use Rattle.std.specs.List.{IsDistinct, list_any}
 use Rattle.std.proofs.Math.Seq.{drop-cons}
 use Rattle.std.proofs.lemmas.List.{length-append}
-use Rattle.tg_graph.specs.Graphs.{Name, ProtectionGraph}
+use Rattle.tg_graph.specs.Graphs.{Name, ProtectionGraph, same_name}
+use Rattle.tg_graph.specs.Rows.{Entries, is_known}
+use Rattle.tg_graph.specs.GraphOf.{graph_of}
+use Rattle.tg_graph.specs.Drafts.{Changes, Fits}
+use Rattle.tg_graph.proofs.Drafts.{fits-none}
+use Rattle.tg_store.specs.Drafted.{drafted}
 use Rattle.tg_graph.specs.Limits.{most_vertices}
 use Rattle.tg_store.specs.declared.answers.Answered.{Answered}
 use Rattle.tg_store.specs.Answers.{AreAnswers, after_step, after_steps}
@@ -68,3 +73,13 @@ crowds-with g after committed session d e h is =
     let n = count-with g committed session d e h in
     let v = ap (λ (g : ProtectionGraph). length g.vertices) is in
     (λ lt. omega (arith, n, v, lt), λ lt. omega (arith, n, v, lt))
+
+-- what a draft without rows is before the first step
+pub record Watched (base : Entries) (committed session : List Answered) (draft : Changes) : Type 0 where
+  pub fits : Fits base draft
+  pub stands : drafted base draft ≡ after_steps (graph_of base) (take 0 committed)
+  pub rows : (v : Name) → is_known draft.0 v ≡ list_any (same_name v) (writes (graph_of base) (take 0 committed))
+  pub left : spoiler (drafted base draft) (drop 0 committed) session ≡ spoiler (graph_of base) committed session
+
+pub watched-none : (base : Entries) (committed session : List Answered) → Watched base committed session ([], [])
+watched-none base committed session = record { fits = fits-none base; stands = refl; rows = λ v. refl; left = refl }

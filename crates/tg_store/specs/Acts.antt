@@ -29,11 +29,6 @@ pub record Repeats (w : World) (event : Event) (answer : HallReply) (v : World) 
   pub run : Run w (replicate (length places) event ++ event ∷ []) (map reply.Learned places ++ answer ∷ []) v
   pub last : is_learned answer ≡ false
 
--- an event, so many times, of which each takes in a record
-pub record OnlyLearns (w : World) (event : Event) (v : World) : Type 0 where
-  pub places : List ℕ
-  pub run : Run w (replicate (length places) event) (map reply.Learned places) v
-
 -- a session is opened, if all was taken in
 abbrev pub OpensAfter : World → ℕ → HallReply → HallReply → World → Type 0
 OpensAfter mid k reply.Nothing answer v = Happens mid (Begin k) answer v

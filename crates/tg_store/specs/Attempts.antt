@@ -1,6 +1,5 @@
 -- One attempt to commit a session.
 use Rattle.std.specs.Prelude.{◌≡◌, ℕ, ◌+◌, ◌<◌, length, slice_get, Some}
-use Rattle.tg_graph.specs.GraphOf.{graph_of}
 use Rattle.tg_store.specs.declared.records.Record.{Record}
 use Rattle.tg_store.specs.declared.weighing.Weighed.{Weighed}
 use Rattle.tg_store.specs.declared.outcomes.Committed.TheVariants.{Again}
@@ -12,7 +11,7 @@ use Rattle.tg_store.specs.Outcomes.{CommitSays}
 
 -- the next record that the seat has not taken in is this to the session
 abbrev pub IsNext : RunningSession → Weighed → Type 0
-IsNext s weighed = (r : Record) × (slice_get s.seat.pass.seen s.seat.taken ≡ Some r) × Weighs (graph_of s.seat.graph) s.seat.taken r.steps s.steps weighed
+IsNext s weighed = (r : Record) × (slice_get s.seat.pass.seen s.seat.taken ≡ Some r) × Weighs s.seat.graph s.seat.taken r.steps s.steps weighed
 
 -- how far a session has come: what its seat has seen, and what it has taken in
 abbrev pub progress : RunningSession → ℕ

@@ -4,7 +4,7 @@ pub mod Answers
 pub mod Histories
 pub mod Touches
 pub mod Told
-pub mod Overlays
+pub mod Drafted
 pub mod Worlds
 pub mod Seats
 pub mod HallFields

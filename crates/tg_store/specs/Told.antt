@@ -6,8 +6,8 @@ use Rattle.tg_graph.specs.declared.session.Step.TheVariants.{Do, Holds, Share}
 use Rattle.tg_graph.specs.declared.session.Reply.{Reply}
 use Rattle.tg_graph.specs.declared.session.Reply.TheVariants.{Done, Yes, No, Refused}
 use Rattle.tg_graph.specs.Graphs.{Name}
+use Rattle.tg_graph.specs.Drafts.{written_by}
 use Rattle.tg_store.specs.declared.answers.Answered.{Answered}
-use Rattle.tg_store.specs.Touches.{written_by}
 
 abbrev pub is_done : Reply → Bool
 is_done Done = true

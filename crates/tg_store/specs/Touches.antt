@@ -9,16 +9,10 @@ use Rattle.tg_graph.specs.declared.session.Step.TheVariants.{Do, Holds, Share}
 use Rattle.tg_graph.specs.declared.session.Reply.{Reply}
 use Rattle.tg_graph.specs.declared.session.Reply.TheVariants.{Done, Yes, No, Refused}
 use Rattle.tg_graph.specs.Graphs.{Name, ProtectionGraph, same_name}
+use Rattle.tg_graph.specs.Drafts.{written_by}
 use Rattle.tg_graph.specs.Limits.{most_vertices}
 use Rattle.tg_store.specs.declared.answers.Answered.{Answered}
 use Rattle.tg_store.specs.Answers.{session_refusal, after_step, after_steps}
-
--- the names that an accepted rule writes, in their order
-abbrev pub written_by : Rule → List Name
-written_by (Take x y z s) = x ∷ []
-written_by (Grant x y z s) = y ∷ []
-written_by (Create x n s) = x ∷ n ∷ []
-written_by (Remove x y s) = x ∷ []
 
 -- the names that a step writes
 abbrev pub step_writes : ProtectionGraph → Step → List Name

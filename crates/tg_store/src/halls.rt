@@ -7,7 +7,7 @@ ghost use Rattle.tg_graph.specs.Limits.{most_cells};
 ghost use Rattle.tg_store.specs.Answers.{AreAnswers};
 ghost use Rattle.tg_store.specs.Histories.{replay, count_of, IsLegal, IsNumbered, AreApart};
 ghost use Rattle.tg_store.specs.Worlds.{fresh_seat, seat_of, seat_in, rests_on, TakeWithin, HoldTrue, Moves, Happens, Run, IsStageable, OpensHall};
-ghost use Rattle.tg_store.specs.Acts.{is_learned, is_free, MayLearn, OnlyLearns, Repeats, CatchesUp, Acts, IsStageableAct};
+ghost use Rattle.tg_store.specs.Acts.{is_learned, is_free, MayLearn, Repeats, CatchesUp, Acts, IsStageableAct};
 ghost use Rattle.std.specs.Vec.{vec_capacity};
 ghost use Rattle.tg_store.specs.Seats.{seen_seat, IsConsistent, Rests};
 
@@ -276,44 +276,15 @@ impl Hall {
         }
     }
 
-    // A seat without an open session takes in all that is left, as if record by record.
-    fn learn_all(&mut self, seat: u32) -> HallReply
-        requires { is_free self.old seat ≡ true }
-        ensures { Repeats self.old (Event.Learn seat) result self.new }
-    {
-        let Some(i) = index_of(seat, self.seats.len()) else {
-            return HallReply::Refused(HallFault::NoSeat);
-        };
-        self.seats[i].learn_all(self.records.as_slice())
-    }
-
-    // A seat without an open session takes in all that is left, and then opens one.
+    // A seat takes in all that is left, and then opens a session.
     fn catch_up(&mut self, seat: u32) -> HallReply
-        requires { is_free self.old seat ≡ true }
         ensures { CatchesUp self.old seat result self.new }
     {
-        let told = self.learn_all(seat);
+        let told = self.repeat(&Event::Learn(seat));
         match told {
             HallReply::Nothing => self.happen(&Event::Begin(seat)),
             other => other,
         }
-    }
-
-    // A seat takes in the records that are left, up to the first that ends its session.
-    fn keep_up(&mut self, seat: u32)
-        ensures { OnlyLearns self.old (Event.Put seat) self.new }
-    {
-        if let Some(i) = index_of(seat, self.seats.len()) {
-            self.seats[i].keep_up(self.records.as_slice());
-        }
-    }
-
-    // A seat takes in the records that are left, and puts its session after them, unless one ends it.
-    fn commit(&mut self, seat: u32) -> HallReply
-        ensures { Repeats self.old (Event.Put seat) result self.new }
-    {
-        self.keep_up(seat);
-        self.repeat(&Event::Put(seat))
     }
 
     /// One act of a seat: to take in all that is left and open a session, to stage a step, to commit, or to give up.
@@ -332,7 +303,7 @@ impl Hall {
                 }
             }
             Act::Stage(step) => self.happen(&Event::Stage(seat, step)),
-            Act::Commit => self.commit(seat),
+            Act::Commit => self.repeat(&Event::Put(seat)),
             Act::Abort => self.happen(&Event::Abort(seat)),
         }
     }

@@ -1,14 +1,14 @@
-//! Steps on a graph.
-ghost use Rattle.std.specs.Prelude.{◌≡◌, All, IfOk, OnOk, OnErr, is_some, Some};
+//! Steps on a draft over a graph.
+ghost use Rattle.std.specs.Prelude.{◌≡◌, All, IfOk, OnOk, OnErr, is_some, Some, None, if◌then◌else◌};
 ghost use Rattle.tg_graph.specs.Sets.{IsNamed};
 ghost use Rattle.tg_graph.specs.Rules.{rights_of};
 ghost use Rattle.tg_graph.specs.GraphOf.{graph_of};
-ghost use Rattle.std.specs.Prelude.{None, if◌then◌else◌};
-ghost use Rattle.tg_graph.specs.Drafts.{Fits};
-ghost use Rattle.tg_store.specs.Overlays.{laid_over};
+ghost use Rattle.tg_graph.specs.Drafts.{laid_over, Fits, IsDraft};
 ghost use Rattle.tg_store.specs.StepWords.{IsNamedStep};
 ghost use Rattle.tg_store.specs.Histories.{replay};
 ghost use Rattle.tg_store.specs.Answers.{lack_of_room, session_refusal, IsAnswer, unknown_of_two, after_step, after_steps};
+ghost use Rattle.tg_store.specs.Touches.{step_writes};
+ghost use Rattle.tg_store.specs.Drafted.{drafted, GainsRows, IsDraftOf};
 
 use crate::answers::Answered;
 use crate::records::Record;
@@ -19,11 +19,11 @@ use tg_graph::{Draft, Graph, MOST_VERTICES, Name, Refusal, Reply, Right, Rule, R
 // Whether the rule would create a vertex for which there is no room.
 fn lacks_room(base: &Graph, draft: &Draft, rule: &Rule) -> bool
     requires { Fits base.now draft.now }
-    ensures { result ≡ is_some (lack_of_room (laid_over base.now draft.now) rule.now) }
+    ensures { result ≡ is_some (lack_of_room (drafted base.now draft.now) rule.now) }
 {
     match *rule {
-        Rule::Create { .. } => base.len() >= MOST_VERTICES.saturating_sub(draft.created()),
-        _ => false,
+        Rule::Create { .. } => base.len().saturating_add(draft.created()) >= MOST_VERTICES,
+        Rule::Take { .. } | Rule::Grant { .. } | Rule::Remove { .. } => false,
     }
 }
 
@@ -31,8 +31,8 @@ fn lacks_room(base: &Graph, draft: &Draft, rule: &Rule) -> bool
 fn refused(base: &Graph, draft: &Draft, rule: &Rule) -> Refusal
     requires fits { Fits base.now draft.now }
     requires named { IsNamed (rights_of rule.now) }
-    requires full { lack_of_room (laid_over base.now draft.now) rule.now ≡ Some Refusal.Full }
-    ensures { session_refusal (laid_over base.now draft.now) rule.now ≡ Some result }
+    requires full { lack_of_room (drafted base.now draft.now) rule.now ≡ Some Refusal.Full }
+    ensures { session_refusal (drafted base.now draft.now) rule.now ≡ Some result }
 {
     match draft.check(base, rule) {
         Err(refusal) => refusal,
@@ -44,8 +44,9 @@ fn refused(base: &Graph, draft: &Draft, rule: &Rule) -> Refusal
 pub fn carry_out(base: &Graph, draft: &mut Draft, rule: &Rule) -> Result<Reply, AllocError>
     requires fits { Fits base.now draft.old }
     requires named { IsNamed (rights_of rule.now) }
-    ensures reply { IfOk result (λ reply. IsAnswer (laid_over base.now draft.old) (Step.Do rule.now) reply) }
-    ensures after { OnOk result (laid_over base.now draft.new ≡ after_step (laid_over base.now draft.old) (Step.Do rule.now)) }
+    ensures reply { IfOk result (λ reply. IsAnswer (drafted base.now draft.old) (Step.Do rule.now) reply) }
+    ensures after { OnOk result (drafted base.now draft.new ≡ after_step (drafted base.now draft.old) (Step.Do rule.now)) }
+    ensures rows { OnOk result (GainsRows draft.old (step_writes (drafted base.now draft.old) (Step.Do rule.now)) draft.new) }
     ensures err { OnErr result (draft.new ≡ draft.old) }
     ensures fits { Fits base.now draft.new }
 {
@@ -62,7 +63,7 @@ pub fn carry_out(base: &Graph, draft: &mut Draft, rule: &Rule) -> Result<Reply, 
 // The first of the two names that is no vertex.
 fn unknown_of_two(base: &Graph, draft: &Draft, x: Name, y: Name) -> Option<Refusal>
     requires { Fits base.now draft.now }
-    ensures { result ≡ unknown_of_two (laid_over base.now draft.now) x y }
+    ensures { result ≡ unknown_of_two (drafted base.now draft.now) x y }
 {
     if !draft.known(base, x) {
         return Some(Refusal::Unknown(x));
@@ -76,7 +77,7 @@ fn unknown_of_two(base: &Graph, draft: &Draft, x: Name, y: Name) -> Option<Refus
 // Answers whether x has a right over y.
 fn answer_holds(base: &Graph, draft: &Draft, right: Right, x: Name, y: Name) -> Reply
     requires { Fits base.now draft.now }
-    ensures { IsAnswer (laid_over base.now draft.now) (Step.Holds right x y) result }
+    ensures { IsAnswer (drafted base.now draft.now) (Step.Holds right x y) result }
 {
     match unknown_of_two(base, draft, x, y) {
         Some(refusal) => Reply::Refused(refusal),
@@ -90,27 +91,6 @@ fn answer_holds(base: &Graph, draft: &Draft, right: Right, x: Name, y: Name) -> 
     }
 }
 
-// Whether x can come to have a right over y.
-fn is_shared(
-    alloc: Global,
-    base: &Graph,
-    draft: &Draft,
-    right: Right,
-    x: Name,
-    y: Name,
-) -> Result<bool, AllocError>
-    requires fits { Fits base.now draft.now }
-    requires known { unknown_of_two (laid_over base.now draft.now) x y ≡ None }
-    ensures { IfOk result (λ shared. IsAnswer (laid_over base.now draft.now) (Step.Share right x y) (if shared then Reply.Yes else Reply.No)) }
-{
-    let whole = draft.whole(base)?;
-    match can_share(alloc, &whole, right, x, y) {
-        Ok(shared) => Ok(shared),
-        // both names are vertices, so only memory can be wanting
-        Err(AskFault::Unknown(_) | AskFault::TooLarge | AskFault::Memory) => Err(AllocError),
-    }
-}
-
 // Answers whether x can come to have a right over y.
 fn answer_share(
     alloc: Global,
@@ -121,15 +101,17 @@ fn answer_share(
     y: Name,
 ) -> Result<Reply, AllocError>
     requires { Fits base.now draft.now }
-    ensures { IfOk result (λ reply. IsAnswer (laid_over base.now draft.now) (Step.Share right x y) reply) }
+    ensures { IfOk result (λ reply. IsAnswer (drafted base.now draft.now) (Step.Share right x y) reply) }
 {
     if let Some(refusal) = unknown_of_two(base, draft, x, y) {
         return Ok(Reply::Refused(refusal));
     }
-    if is_shared(alloc, base, draft, right, x, y)? {
-        Ok(Reply::Yes)
-    } else {
-        Ok(Reply::No)
+    let whole = draft.whole(base)?;
+    match can_share(alloc, &whole, right, x, y) {
+        Ok(true) => Ok(Reply::Yes),
+        Ok(false) => Ok(Reply::No),
+        // both names are vertices, so only memory can be wanting
+        Err(AskFault::Unknown(_) | AskFault::TooLarge | AskFault::Memory) => Err(AllocError),
     }
 }
 
@@ -142,8 +124,9 @@ pub fn answer(
 ) -> Result<Reply, AllocError>
     requires fits { Fits base.now draft.old }
     requires named { IsNamedStep step.now }
-    ensures reply { IfOk result (λ reply. IsAnswer (laid_over base.now draft.old) step.now reply) }
-    ensures after { OnOk result (laid_over base.now draft.new ≡ after_step (laid_over base.now draft.old) step.now) }
+    ensures reply { IfOk result (λ reply. IsAnswer (drafted base.now draft.old) step.now reply) }
+    ensures after { OnOk result (drafted base.now draft.new ≡ after_step (drafted base.now draft.old) step.now) }
+    ensures rows { OnOk result (GainsRows draft.old (step_writes (drafted base.now draft.old) step.now) draft.new) }
     ensures err { OnErr result (draft.new ≡ draft.old) }
     ensures fits { Fits base.now draft.new }
 {
@@ -155,10 +138,11 @@ pub fn answer(
 }
 
 // Lays a step on a draft again.
-fn stage(base: &Graph, draft: &mut Draft, step: &Step) -> Result<(), AllocError>
+fn lay(base: &Graph, draft: &mut Draft, step: &Step) -> Result<(), AllocError>
     requires fits { Fits base.now draft.old }
     requires named { IsNamedStep step.now }
-    ensures laid { OnOk result (laid_over base.now draft.new ≡ after_step (laid_over base.now draft.old) step.now) }
+    ensures after { OnOk result (drafted base.now draft.new ≡ after_step (drafted base.now draft.old) step.now) }
+    ensures rows { OnOk result (GainsRows draft.old (step_writes (drafted base.now draft.old) step.now) draft.new) }
     ensures fits { Fits base.now draft.new }
 {
     match *step {
@@ -172,40 +156,41 @@ fn stage(base: &Graph, draft: &mut Draft, step: &Step) -> Result<(), AllocError>
     }
 }
 
-/// The draft that steps make of a graph.
+/// The draft that steps make over a graph.
 pub fn with_steps(base: &Graph, steps: &[Answered]) -> Result<Draft, AllocError>
     requires { All (λ a. IsNamedStep a.step) steps.now }
-    ensures laid { IfOk result (λ draft. laid_over base.now draft ≡ after_steps (graph_of base.now) steps.now) }
-    ensures fits { IfOk result (λ draft. Fits base.now draft) }
+    ensures { IfOk result (IsDraftOf base.now steps.now) }
 {
     let mut draft = base.draft();
     for answered in steps {
-        stage(base, &mut draft, &answered.step)?;
+        lay(base, &mut draft, &answered.step)?;
     }
+    // `created` says that it is a draft
+    let _ = draft.created();
     Ok(draft)
 }
 
-/// Lays steps on a graph again, one after another. An error changes nothing.
-pub fn lay_all(graph: &mut Graph, steps: &[Answered]) -> Result<(), AllocError>
-    requires { All (λ a. IsNamedStep a.step) steps.now }
-    ensures laid { OnOk result (graph_of graph.new ≡ after_steps (graph_of graph.old) steps.now) }
+/// Takes the changes of a draft in. An error changes nothing, and the draft is given up.
+pub fn merge(graph: &mut Graph, draft: Draft) -> Result<(), AllocError>
+    requires { Fits graph.old draft }
+    ensures merged { OnOk result (graph.new ≡ laid_over graph.old draft) }
     ensures err { OnErr result (graph.new ≡ graph.old) }
 {
-    let draft = with_steps(graph, steps)?;
     match graph.merge(draft) {
         Ok(()) => Ok(()),
-        Err(_) => Err(AllocError),
+        Err(_draft) => Err(AllocError),
     }
 }
 
-/// A copy of a graph with steps on it.
-pub fn copy_with(graph: &Graph, steps: &[Answered]) -> Result<Graph, AllocError>
+/// Lays steps on a graph again. An error changes nothing.
+pub fn lay_all(graph: &mut Graph, steps: &[Answered]) -> Result<(), AllocError>
     requires { All (λ a. IsNamedStep a.step) steps.now }
-    ensures { IfOk result (λ copy. graph_of copy ≡ after_steps (graph_of graph.now) steps.now) }
+    ensures graph { OnOk result (graph_of graph.new ≡ after_steps (graph_of graph.old) steps.now) }
+    ensures err { OnErr result (graph.new ≡ graph.old) }
 {
-    let mut copy = graph.copy()?;
-    lay_all(&mut copy, steps)?;
-    Ok(copy)
+    let draft = with_steps(graph, steps)?;
+    merge(graph, draft)?;
+    Ok(())
 }
 
 /// The graph after all records.

@@ -5,9 +5,9 @@ ghost use Rattle.std.specs.Option.{option_copied};
 ghost use Rattle.tg_graph.specs.GraphOf.{graph_of};
 ghost use Rattle.tg_journal.specs.Pass.{IsPass};
 ghost use Rattle.tg_journal.specs.Lists.{Begins};
-ghost use Rattle.tg_graph.specs.Drafts.{Fits};
+ghost use Rattle.tg_graph.specs.Drafts.{Fits, laid_over};
 ghost use Rattle.tg_store.specs.Answers.{AreAnswers, after_steps};
-ghost use Rattle.tg_store.specs.Overlays.{laid_over};
+ghost use Rattle.tg_store.specs.Drafted.{drafted};
 ghost use Rattle.tg_store.specs.Offers.{OfferSays};
 ghost use Rattle.tg_store.specs.Running.{RunningSeat, seat_number, seat_from, seen_graph, IsSeat, GoesOn, PutsNothing};
 ghost use Rattle.tg_store.specs.Outcomes.{FindsForeign};
@@ -183,15 +183,20 @@ impl Seat {
         }
     }
 
-    // Takes in one record that it has seen, whose graph this is.
-    pub(crate) fn take_in(&mut self, graph: Graph)
+    // Takes in the next record that it has seen, whose draft this is. An error changes nothing.
+    pub(crate) fn take_in(&mut self, draft: Draft) -> Result<(), AllocError>
         requires seen { self.old.taken < length self.old.pass.seen }
-        requires graph { graph_of graph ≡ seen_graph self.old (self.old.taken + 1) }
-        ensures value { self.new ≡ record { opening = self.old.opening; pass = self.old.pass; taken = self.old.taken + 1; graph = graph } }
+        requires fits { Fits self.old.graph draft }
+        requires laid { drafted self.old.graph draft ≡ seen_graph self.old (self.old.taken + 1) }
+        ensures pass { (self.new.opening ≡ self.old.opening) × (self.new.pass ≡ self.old.pass) }
+        ensures graph { OnOk result (self.new.graph ≡ laid_over self.old.graph draft) }
+        ensures taken { OnOk result (self.new.taken ≡ self.old.taken + 1) }
+        ensures err { OnErr result (self.new ≡ self.old) }
         ensures seat { IsSeat self.new }
     {
-        self.graph = graph;
+        replays::merge(&mut self.graph, draft)?;
         self.taken += 1;
+        Ok(())
     }
 
     // Takes in the next record that it has seen. An error changes nothing.
@@ -232,7 +237,7 @@ impl Seat {
         requires number { (stored.now.seat ≡ self.pass.number) × (stored.now.number ≡ length self.pass.mine) }
         requires answers { AreAnswers (graph_of self.graph) stored.now.steps }
         requires fits { Fits self.graph draft }
-        requires laid { laid_over self.graph draft ≡ after_steps (graph_of self.graph) stored.now.steps }
+        requires laid { drafted self.graph draft ≡ after_steps (graph_of self.graph) stored.now.steps }
         requires all { self.taken ≡ length self.pass.seen }
         ensures { OfferSays self draft stored.now result }
     {

@@ -18,7 +18,7 @@ use crate::weighing::Weighed;
 use crate::{replays, weighing};
 use std::alloc::AllocError;
 use std::marker::Model;
-use tg_graph::{Graph, Reply, Step};
+use tg_graph::{Draft, Reply, Step};
 use tg_journal::{Journal, Put};
 
 /// An open session at a seat of a running store.
@@ -101,23 +101,19 @@ impl Session {
         )
     }
 
-    // Rests on the next record as well, which leads to this graph.
-    fn rest_on(self, graph: Graph) -> Attempt
-        requires clear { IsNext self (Weighed.Clear graph) }
+    // Rests on the next record as well, whose draft this is. Its own draft is as it was.
+    fn rest_on(self, draft: Draft) -> Attempt
+        requires clear { IsNext self (Weighed.Clear draft) }
         requires left { self.seat.taken < length self.seat.pass.seen }
         ensures { AttemptSays self result }
     {
         let Session { mut seat, staged } = self;
+        // these contracts say what is true of the seat and of its graph
         let _ = seat.taken();
         let _ = seat.graph().len();
-        match replays::with_steps(&graph, staged.kept.as_slice()) {
-            Ok(overlay) => {
-                seat.take_in(graph);
-                let kept = staged.kept;
-                let staged = OpenSession { overlay, kept };
-                Attempt::Further(Session { seat, staged })
-            }
-            Err(_) => Attempt::Over(Committed::Again(Session { seat, staged })),
+        match seat.take_in(draft) {
+            Ok(()) => Attempt::Further(Session { seat, staged }),
+            Err(AllocError) => Attempt::Over(Committed::Again(Session { seat, staged })),
         }
     }
 
@@ -136,9 +132,9 @@ impl Session {
         ensures { AttemptSays self result }
     {
         match self.weigh(journal) {
-            Ok(Weighed::Clear(graph)) => self.rest_on(graph),
+            Ok(Weighed::Clear(draft)) => self.rest_on(draft),
             Ok(Weighed::Ends(fault)) => self.end(fault),
-            Err(_) => Attempt::Over(Committed::Again(self)),
+            Err(AllocError) => Attempt::Over(Committed::Again(self)),
         }
     }
 
@@ -149,19 +145,19 @@ impl Session {
         ensures { AttemptSays self result }
     {
         let Session { seat, staged } = self;
-        let OpenSession { overlay, kept } = staged;
+        let OpenSession { draft, kept } = staged;
         let _ = seat.taken();
         let record = Record {
             seat: seat.number(),
             number: seat.commits(),
             steps: Steps::from_vec(kept),
         };
-        let offered = seat.offer(journal, &record, overlay);
+        let offered = seat.offer(journal, &record, draft);
         let kept = record.steps.into_vec();
         match offered {
             Offered::Won(seat, place) => Attempt::Over(Committed::Done(seat, Receipt { place })),
-            Offered::Back(seat, overlay, answer) => {
-                let staged = OpenSession { overlay, kept };
+            Offered::Back(seat, draft, answer) => {
+                let staged = OpenSession { draft, kept };
                 match answer {
                     Put::Won(_) => unreachable!(),
                     Put::Full => Attempt::Over(Committed::Refused(seat, CommitFault::JournalFull)),

@@ -1,5 +1,5 @@
 //! The seats of a hall.
-ghost use Rattle.std.specs.Prelude.{◌≡◌, ◌<◌, ◌≤◌, ◌∷◌, ◌++◌, [], List, All, IsSome, IfOk, OnOk, OnErr, IfSome, Some, None, length, slice_get, vec_len, not, is_none, false, drop};
+ghost use Rattle.std.specs.Prelude.{◌≡◌, ◌<◌, ◌≤◌, ◌∷◌, ◌++◌, [], List, All, IsSome, IfOk, OnOk, OnErr, IfSome, Some, None, length, slice_get, vec_len, not, is_none};
 ghost use Rattle.std.specs.Vec.{vec_capacity};
 ghost use Rattle.tg_graph.specs.Graphs.{ProtectionGraph};
 ghost use Rattle.tg_graph.specs.GraphOf.{graph_of};
@@ -7,8 +7,7 @@ ghost use Rattle.tg_graph.specs.Limits.{most_cells};
 ghost use Rattle.tg_store.specs.declared.records.Record.{Record};
 ghost use Rattle.tg_store.specs.StepWords.{IsNamedStep};
 ghost use Rattle.tg_store.specs.Answers.{IsAnswer, AreAnswers, after_steps};
-ghost use Rattle.tg_store.specs.Histories.{count_of, IsLegal};
-ghost use Rattle.tg_store.specs.Seats.{IsClearPart};
+ghost use Rattle.tg_store.specs.Histories.{count_of};
 ghost use Rattle.tg_store.specs.Touches.{IsClear};
 ghost use Rattle.tg_store.specs.Worlds.{one_further, fresh_seat, Begins, TakesIn, Learns, Stages, Aborts, Joins, Puts};
 
@@ -19,10 +18,10 @@ use crate::{replays, spoilers};
 use std::alloc::{AllocError, Global};
 use tg_graph::{Draft, Graph, Refusal, Reply, Rule, Step};
 
-/// An open session: its own graph, and its steps with their replies.
+/// An open session: its draft over the graph of its seat, and its steps with their replies.
 #[derive(Drop)]
 pub struct OpenSession {
-    pub(crate) overlay: Draft,
+    pub(crate) draft: Draft,
     pub(crate) kept: Vec<Answered>,
 }
 
@@ -48,38 +47,6 @@ fn keep(kept: &mut Vec<Answered>, step: Step, reply: Reply)
     kept.push_reserved(Answered::new(step, reply));
 }
 
-// Whether a record ends a session with these steps.
-fn ends_session(graph: &Graph, committed: &[Answered], steps: &[Answered]) -> bool
-    requires committed { AreAnswers (graph_of graph.now) committed.now }
-    requires session { AreAnswers (graph_of graph.now) steps.now }
-    ensures { result ≡ false → IsClear (graph_of graph.now) committed.now (Some steps.now) }
-{
-    spoilers::spoiler(graph, committed, steps).is_some()
-        || spoilers::crowds(graph, committed, steps)
-}
-
-// How many of the records, from the first on, leave a session with these steps as it is, and the graph after them.
-fn clear_part(
-    base: &Graph,
-    steps: &[Answered],
-    records: &[Record],
-) -> Result<(Graph, usize), AllocError>
-    requires answers { AreAnswers (graph_of base.now) steps.now }
-    requires legal { IsLegal (graph_of base.now) records.now }
-    ensures { IfOk result (λ part. IsClearPart (graph_of base.now) steps.now records.now part.1 (graph_of part.0)) }
-{
-    let mut graph = base.copy()?;
-    for count in 0..records.len() {
-        let committed = records[count].steps.as_slice();
-        let _ = graph.len();
-        if ends_session(&graph, committed, steps) {
-            return Ok((graph, count));
-        }
-        replays::lay_all(&mut graph, committed)?;
-    }
-    Ok((graph, records.len()))
-}
-
 impl OpenSession {
     ghost use Rattle.tg_store.specs.Seats.{IsSessionOn};
 
@@ -89,7 +56,7 @@ impl OpenSession {
         ensures kept { result.kept.items ≡ [] }
     {
         OpenSession {
-            overlay: base.draft(),
+            draft: base.draft(),
             kept: Vec::new(alloc),
         }
     }
@@ -105,7 +72,9 @@ impl OpenSession {
     {
         self.kept.reserve(1)?;
         let alloc = *self.kept.allocator();
-        let outcome = replays::answer(alloc, base, &mut self.overlay, step);
+        let outcome = replays::answer(alloc, base, &mut self.draft, step);
+        // `created` says that it is a draft
+        let _ = self.draft.created();
         if let Ok(reply) = &outcome {
             keep(&mut self.kept, *step, *reply);
         }
@@ -114,7 +83,7 @@ impl OpenSession {
 }
 
 impl SeatState {
-    ghost use Rattle.tg_store.specs.Seats.{seen_seat, IsConsistent, Rests, Obstructs, TakesAll, GoesFurther, KeepsUp};
+    ghost use Rattle.tg_store.specs.Seats.{seen_seat, IsConsistent, Rests, Obstructs};
 
     /// A seat that has taken in nothing.
     pub fn new(alloc: Global, opening: &Graph) -> Result<SeatState, AllocError>
@@ -164,9 +133,7 @@ impl SeatState {
         if self.session.is_some() {
             return HallReply::Refused(HallFault::AlreadyOpen);
         }
-        let overlay = self.graph.draft();
-        let kept = Vec::new(self.alloc);
-        self.session = Some(OpenSession { overlay, kept });
+        self.session = Some(OpenSession::new(&self.graph, self.alloc));
         HallReply::Done
     }
 
@@ -224,7 +191,8 @@ impl SeatState {
         None
     }
 
-    // Lays steps on the graph, and those of the open session on that. An error changes nothing.
+    // Lays the steps of a record on the graph. The draft of the open session, of which the record is clear, is as it was.
+    // An error changes nothing.
     fn lay(&mut self, committed: &[Answered]) -> Result<(), AllocError>
         requires consistent { IsConsistent self.old }
         requires named { All (λ a. IsNamedStep a.step) committed.now }
@@ -235,12 +203,10 @@ impl SeatState {
         ensures consistent { IsConsistent self.new }
         ensures commits { self.new.commits ≡ self.old.commits }
     {
+        // no vertex stands twice in the graph: this `len` says
         let _ = self.graph.len();
-        let graph = replays::copy_with(&self.graph, committed)?;
-        if let Some(session) = &mut self.session {
-            session.overlay = replays::with_steps(&graph, session.kept.as_slice())?;
-        }
-        self.graph = graph;
+        let draft = replays::with_steps(&self.graph, committed)?;
+        replays::merge(&mut self.graph, draft)?;
         Ok(())
     }
 
@@ -303,71 +269,6 @@ impl SeatState {
         }
     }
 
-    /// Takes in all records that are left, where no session is open. Where memory is refused, nothing has changed.
-    pub fn learn_all(&mut self, records: &[Record]) -> HallReply
-        requires free { (seen_seat self.old).session ≡ None }
-        requires within { self.old.taken ≤ length records.now }
-        ensures takes { TakesAll (length records.now) (seen_seat self.old) result (seen_seat self.new) }
-        ensures rests { (g : ProtectionGraph) → Rests g records.now self.old → Rests g records.now self.new }
-        ensures consistent { IsConsistent self.new }
-        ensures commits { self.new.commits ≡ self.old.commits }
-    {
-        if self.taken == records.len() {
-            return HallReply::Nothing;
-        }
-        match replays::replayed(&self.graph, &records[self.taken..]) {
-            Ok(graph) => {
-                self.graph = graph;
-                self.taken = records.len();
-                HallReply::Nothing
-            }
-            Err(AllocError) => HallReply::Refused(HallFault::Memory),
-        }
-    }
-
-    // What the records that are left, up to the first that ends the open session, make of the graph and of the
-    // session's own, and how many they are. There is none without a session, a record that is left, or memory.
-    fn further(&self, records: &[Record]) -> Option<(Graph, Draft, usize)>
-        requires consistent { IsConsistent self.now }
-        requires legal { IsLegal (graph_of self.now.graph) (drop self.now.taken records.now) }
-        requires within { self.now.taken ≤ length records.now }
-        ensures { IfSome result (λ f. GoesFurther self.now records.now f.0 f.1 f.2) }
-    {
-        if self.taken == records.len() {
-            return None;
-        }
-        let session = self.session.as_ref()?;
-        let steps = session.kept.as_slice();
-        let Ok((graph, count)) = clear_part(&self.graph, steps, &records[self.taken..]) else {
-            return None;
-        };
-        let Ok(overlay) = replays::with_steps(&graph, steps) else {
-            return None;
-        };
-        Some((graph, overlay, count))
-    }
-
-    /// Takes in the records that are left, up to the first that ends the open session. Where no session is open, or
-    /// memory is refused, nothing has changed.
-    pub fn keep_up(&mut self, records: &[Record])
-        requires consistent { IsConsistent self.old }
-        requires legal { IsLegal (graph_of self.old.graph) (drop self.old.taken records.now) }
-        requires within { self.old.taken ≤ length records.now }
-        ensures keeps { KeepsUp (graph_of self.old.graph) records.now (seen_seat self.old) (seen_seat self.new) }
-        ensures rests { (g : ProtectionGraph) → Rests g records.now self.old → Rests g records.now self.new }
-        ensures consistent { IsConsistent self.new }
-        ensures commits { self.new.commits ≡ self.old.commits }
-    {
-        let Some((graph, overlay, count)) = self.further(records) else {
-            return;
-        };
-        if let Some(session) = &mut self.session {
-            session.overlay = overlay;
-            self.graph = graph;
-            self.taken += count;
-        }
-    }
-
     // Puts the open session at the end of the history.
     fn join(&mut self, number: u32, cells: usize, records: &mut Vec<Record>) -> HallReply
         requires consistent { IsConsistent self.old }
@@ -387,11 +288,11 @@ impl SeatState {
         }
         let place = records.len();
         if let Some(session) = self.session.take() {
-            let OpenSession { overlay, kept } = session;
-            match self.graph.merge(overlay) {
+            let OpenSession { draft, kept } = session;
+            match self.graph.merge(draft) {
                 Ok(()) => {}
-                Err(overlay) => {
-                    self.session = Some(OpenSession { overlay, kept });
+                Err(draft) => {
+                    self.session = Some(OpenSession { draft, kept });
                     return HallReply::Refused(HallFault::Memory);
                 }
             }

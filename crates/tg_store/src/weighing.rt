@@ -1,11 +1,11 @@
 //! A record that a session comes upon, of which it is not known whether it is true.
-ghost use Rattle.std.specs.Prelude.{◌≡◌, ◌↔◌, ◌<◌, ◌+◌, All, IsTrue, IfOk, OnOk, None, find, length, count_by};
+ghost use Rattle.std.specs.Prelude.{◌≡◌, ◌↔◌, ◌<◌, ◌+◌, All, IsTrue, IfOk, OnOk, None, find, [], length, count_by};
 ghost use Rattle.tg_graph.specs.Drafts.{Fits};
 ghost use Rattle.tg_graph.specs.GraphOf.{graph_of};
 ghost use Rattle.tg_graph.specs.Limits.{most_vertices};
 ghost use Rattle.tg_store.specs.StepWords.{IsNamedStep};
-ghost use Rattle.tg_store.specs.Answers.{AreAnswers, after_step, after_steps};
-ghost use Rattle.tg_store.specs.Overlays.{laid_over};
+ghost use Rattle.tg_store.specs.Answers.{AreAnswers, after_step};
+ghost use Rattle.tg_store.specs.Drafted.{drafted, GainsRows, IsDraftOf};
 ghost use Rattle.tg_store.specs.Touches.{touches, step_writes, spoiler};
 ghost use Rattle.tg_store.specs.Told.{tells_creation};
 ghost use Rattle.tg_store.specs.Weighing.{Weighs};
@@ -19,8 +19,8 @@ use tg_graph::{Draft, Graph, MOST_VERTICES, Name, Step};
 /// What a record is to a session.
 #[derive(Drop)]
 pub enum Weighed {
-    /// It leaves the session as it is, and leads to this graph.
-    Clear(Graph),
+    /// It leaves the session as it is, and this is its draft.
+    Clear(Draft),
     /// It ends the session.
     Ends(CommitFault),
 }
@@ -34,9 +34,10 @@ fn lay_watched(
 ) -> Result<Option<Name>, AllocError>
     requires fits { Fits base.now draft.old }
     requires named { IsNamedStep step.now }
-    ensures laid { OnOk result (laid_over base.now draft.new ≡ after_step (laid_over base.now draft.old) step.now) }
+    ensures laid { OnOk result (drafted base.now draft.new ≡ after_step (drafted base.now draft.old) step.now) }
+    ensures rows { OnOk result (GainsRows draft.old (step_writes (drafted base.now draft.old) step.now) draft.new) }
     ensures fits { Fits base.now draft.new }
-    ensures name { IfOk result (λ name. name ≡ find (touches session.now) (step_writes (laid_over base.now draft.old) step.now)) }
+    ensures name { IfOk result (λ name. name ≡ find (touches session.now) (step_writes (drafted base.now draft.old) step.now)) }
 {
     match *step {
         Step::Do(rule) => {
@@ -47,19 +48,18 @@ fn lay_watched(
     }
 }
 
-// Lays steps on a draft, and says the first name that they write and that the session touches. There it stops.
+// Lays steps on a draft that is empty, and says the first name that they write and that the session touches. There it
+// stops.
 fn lay_all_watched(
     base: &Graph,
     draft: &mut Draft,
     committed: &[Answered],
     session: &[Answered],
 ) -> Result<Option<Name>, AllocError>
-    requires fits { Fits base.now draft.old }
+    requires empty { draft.old ≡ ([], []) }
     requires named { All (λ a. IsNamedStep a.step) committed.now }
-    ensures name { IfOk result (λ name. name ≡ spoiler (laid_over base.now draft.old) committed.now session.now) }
-    ensures laid { IfOk result (λ name.
-        name ≡ None → laid_over base.now draft.new ≡ after_steps (laid_over base.now draft.old) committed.now) }
-    ensures fits { Fits base.now draft.new }
+    ensures name { IfOk result (λ name. name ≡ spoiler (graph_of base.now) committed.now session.now) }
+    ensures drawn { IfOk result (λ name. name ≡ None → IsDraftOf base.now committed.now draft.new) }
 {
     for answered in committed {
         let name = lay_watched(base, draft, &answered.step, session)?;
@@ -67,6 +67,8 @@ fn lay_all_watched(
             return Ok(name);
         }
     }
+    // `created` says that it is a draft
+    let _ = draft.created();
     Ok(None)
 }
 
@@ -74,7 +76,7 @@ fn lay_all_watched(
 fn overfills(base: &Graph, draft: &Draft, session: &[Answered]) -> bool
     requires { Fits base.now draft.now }
     ensures { IsTrue result ↔
-        (most_vertices < length (laid_over base.now draft.now).vertices + count_by tells_creation session.now) }
+        (most_vertices < length (drafted base.now draft.now).vertices + count_by tells_creation session.now) }
 {
     base.len()
         .saturating_add(draft.created())
@@ -91,7 +93,7 @@ pub fn weigh(
 ) -> Result<Weighed, AllocError>
     requires named { All (λ a. IsNamedStep a.step) committed.now }
     requires session { AreAnswers (graph_of base.now) session.now }
-    ensures { IfOk result (Weighs (graph_of base.now) place committed.now session.now) }
+    ensures { IfOk result (Weighs base.now place committed.now session.now) }
 {
     // its contract says that no vertex is there twice
     let _ = base.len();
@@ -102,5 +104,5 @@ pub fn weigh(
     if overfills(base, &draft, session) {
         return Ok(Weighed::Ends(CommitFault::Crowded { place }));
     }
-    Ok(Weighed::Clear(draft.whole(base)?))
+    Ok(Weighed::Clear(draft))
 }

@@ -2,7 +2,7 @@ use Rattle.std.proofs.Common.{◌≡◌, length, ◌+◌, sym, ap, subst, ◌∙
 use Rattle.tg_graph.specs.GraphOf.{graph_of}
 use Rattle.tg_graph.specs.Drafts as drafts
 use Rattle.tg_store.specs.Answers.{AreAnswers, after_steps}
-use Rattle.tg_store.specs.Overlays.{laid_over}
+use Rattle.tg_store.specs.Drafted.{drafted}
 use Rattle.tg_store.specs.Running.{RunningSeat}
 use Rattle.tg_store.specs.Offers.{OfferSays}
 use Rattle.tg_store.specs.declared.running_seats.Offered.TheVariants.{Won, Back}
@@ -44,7 +44,7 @@ invariant_of-further c =
     let r = c.args.stored.now in
     let d = c.args.draft in
     let e = c.in-Won.ensures in
-    let laid = ap graph_of (c.merge.ensures ∙ ap (λ r. drafts.laid_over r.0 r.1) c.in-Ok.ensures.ok) ∙ subst (λ (s : RunningSeat). laid_over s.graph d ≡ after_steps (graph_of s.graph) r.steps) here c.requires.laid in
+    let laid = ap graph_of (c.merge.ensures ∙ ap (λ r. drafts.laid_over r.0 r.1) c.in-Ok.ensures.ok) ∙ subst (λ (s : RunningSeat). drafted s.graph d ≡ after_steps (graph_of s.graph) r.steps) here c.requires.laid in
     (offer-won s c.self.invariant r d c.merge.result c.put.new.pass e.number e.cells e.known e.pass c.in-Won.place
     (subst (λ (s : RunningSeat). s.taken ≡ length s.pass.seen) here c.requires.all)
     (subst (λ (s : RunningSeat). r.seat ≡ s.pass.number) here c.requires.number.0)
@@ -60,7 +60,7 @@ returns-in-Won c =
     let r = c.args.stored.now in
     let d = c.args.draft in
     let e = c.in-Won.ensures in
-    let laid = ap graph_of (c.merge.ensures ∙ ap (λ r. drafts.laid_over r.0 r.1) c.in-Ok.ensures.ok) ∙ subst (λ (s : RunningSeat). laid_over s.graph d ≡ after_steps (graph_of s.graph) r.steps) here c.requires.laid in
+    let laid = ap graph_of (c.merge.ensures ∙ ap (λ r. drafts.laid_over r.0 r.1) c.in-Ok.ensures.ok) ∙ subst (λ (s : RunningSeat). drafted s.graph d ≡ after_steps (graph_of s.graph) r.steps) here c.requires.laid in
     subst (λ (s : RunningSeat). OfferSays s d r (Won t c.in-Won.place)) c.self.view_is
     (offer-won s c.self.invariant r d c.merge.result c.put.new.pass e.number e.cells e.known e.pass c.in-Won.place
     (subst (λ (s : RunningSeat). s.taken ≡ length s.pass.seen) here c.requires.all)

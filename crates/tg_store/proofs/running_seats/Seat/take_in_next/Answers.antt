@@ -12,7 +12,7 @@ invariant_of-self-2 c =
     let i = c.self.inside in
     let s : RunningSeat = record { opening = i.opening.value; pass = i.pass; taken = i.taken; graph = i.graph } in
     let lt = subst (λ (s : RunningSeat). s.taken < length s.pass.seen) (sym c.self.view_is) c.requires.seen in
-    let laid = c.in_ok-lay_all.ensures.laid ∙ ap (after_steps (graph_of i.graph)) c.as_slice.ensures.value in
+    let laid = c.in_ok-lay_all.ensures.graph ∙ ap (after_steps (graph_of i.graph)) c.as_slice.ensures.value in
     seat-at s (i.taken + 1) c.lay_all.new.graph c.self.invariant (omega (arith, lt)) (next-graph s c.in-Some.stored.now c.lay_all.new.graph c.self.invariant (sym c.in-Some.ensures) laid)
 
 pub returns-clause-seat : goal.returns-clause-seat
@@ -20,5 +20,5 @@ returns-clause-seat c =
     let i = c.self.inside in
     let s : RunningSeat = record { opening = i.opening.value; pass = i.pass; taken = i.taken; graph = i.graph } in
     let lt = subst (λ (s : RunningSeat). s.taken < length s.pass.seen) (sym c.self.view_is) c.requires.seen in
-    let laid = c.in_ok-lay_all.ensures.laid ∙ ap (after_steps (graph_of i.graph)) c.as_slice.ensures.value in
+    let laid = c.in_ok-lay_all.ensures.graph ∙ ap (after_steps (graph_of i.graph)) c.as_slice.ensures.value in
     seat-at s (i.taken + 1) c.lay_all.new.graph c.self.invariant (omega (arith, lt)) (next-graph s c.in-Some.stored.now c.lay_all.new.graph c.self.invariant (sym c.in-Some.ensures) laid)

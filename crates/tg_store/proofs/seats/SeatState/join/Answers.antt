@@ -31,6 +31,6 @@ returns-clause-rests c g h =
           rests-put g c.args.records.now.items c.match-take.records.items old c.match-take.self r c.requires.all_taken
           (ap (λ v. v.items) w.records-is ∙ w.push_reserved.ensures.items ∙ ap (λ xs. xs ++ r ∷ []) c.reserve.ensures.items)
           (ap (λ (s : SeatState). s.taken) w.self-is)
-          (ap (λ (s : SeatState). graph_of s.graph) w.self-is ∙ ap graph_of w.in-Ok.ensures.merged ∙ on.laid ∙ ap (after_steps (graph_of old.graph)) (sym w.from_vec.ensures)) h
+          (ap (λ (s : SeatState). graph_of s.graph) w.self-is ∙ ap graph_of w.in-Ok.ensures.merged ∙ on.drawn.stands ∙ ap (after_steps (graph_of old.graph)) (sym w.from_vec.ensures)) h
       | in_default w ↦ absurd (true≢false (sym (subst IsSome (sym c.take.ensures.value ∙ w.in_default.is) c.requires.open)))
     ]
