@@ -1,5 +1,5 @@
 -- What rows that are put into a base do to the graph.
-use Rattle.std.proofs.Common.{◌≡◌, ℕ, ◌+◌, Bool, true, false, cond, List, [], ◌∷◌, ◌++◌, length, Option, Some, None, refl, sym, ap, subst, ◌∙◌, bytes_eq, IfSome, is_some, true≢false, arith, ◌||◌, ◌&&◌, not, Result, Ok, Err, OnOk}
+use Rattle.std.proofs.Common.{◌≡◌, ℕ, ◌+◌, ◌<◌, ◌≤◌, Bool, true, false, cond, List, [], ◌∷◌, ◌++◌, length, Option, Some, None, refl, sym, ap, subst, ◌∙◌, bytes_eq, IfSome, is_some, true≢false, arith, ◌||◌, ◌&&◌, not, Result, Ok, Err, OnOk}
 use Rattle.std.specs.Prelude.{if◌then◌else◌}
 use Rattle.std.specs.Option.{option_map_or}
 use Rattle.std.specs.List.{list_any, IsDistinct, AllByRecursion}
@@ -7,6 +7,8 @@ use Rattle.std.specs.Map.{keys_of, lookup, set_value}
 use Rattle.std.specs.Cmp.Lexicographic.{nat_list_eq_equiv}
 use Rattle.std.proofs.lemmas.Map.Made.{is_some-lookup}
 use Rattle.std.proofs.lemmas.Map.Keys.{IsDistinct-push}
+use Rattle.std.proofs.Math.Bool.{or-true}
+use Rattle.std.proofs.lemmas.List.Folds.{list_any-append}
 use Rattle.std.proofs.lemmas.List.{length-append, length-map, append-nil, append_assoc, append_cancel_left, map-append}
 use Rattle.indexmap.specs.IndexMap.{insert_entry, insert_all}
 use Rattle.indexmap.specs.IndexSet.{insert_key, insert_all as set_all}
@@ -18,7 +20,7 @@ use Rattle.tg_graph.specs.Names.{IsName}
 use Rattle.tg_graph.specs.GraphOf.{graph_of}
 use Rattle.tg_graph.specs.Rules.{with_rights, without_rights, with_vertex}
 use Rattle.tg_graph.specs.Drafts.{Changes, is_created, laid_over, Fits, AreRows, IsDraft, PutsRow}
-use Rattle.tg_graph.proofs.NewNames.{is_among, new_names, filter-alike, among-filter, set-new, set-push}
+use Rattle.tg_graph.proofs.NewNames.{is_among, new_names, filter-alike, among-filter, not_among, set-new, set-push}
 use Rattle.tg_graph.proofs.Rows.{symm, same_bytes, row_none}
 use Rattle.tg_graph.proofs.Graphs.{AltersRow, none_from_unknown, graph-adds, is_graph-adds, graph-takes, is_graph-takes, graph-creates, is_graph-creates}
 
@@ -228,6 +230,41 @@ module _ (base rows : Entries) (x : List ℕ) (d : IsDistinct bytes_eq (keys_of 
       row = r;
     }
 
+-- how much longer the rows get
+length-put : (es : Entries) (k : List ℕ) (v : Edges) → length es ≤ length (insert_entry bytes_eq es k v)
+length-put [] k v = omega arith
+length-put (e ∷ es) k v = by (bytes_eq k e.0) (length-put es k v)
+  where
+    by : (b : Bool) → length es ≤ length (insert_entry bytes_eq es k v) → length (e ∷ es) ≤ length (if b then (e.0, v) ∷ es else e ∷ insert_entry bytes_eq es k v)
+    by true h = omega arith
+    by false h = omega (arith, h)
+
+length-put_all : (es rows : Entries) → length es ≤ length (laid es rows)
+length-put_all es [] = omega arith
+length-put_all es (r ∷ rows) = omega (arith, length-put es r.0 r.1, length-put_all (insert_entry bytes_eq es r.0 r.1) rows)
+
+-- where there is room for what rows lead to, there is room for the first of them
+pub room-first : (es : Entries) (k : List ℕ) (v : Edges) (rows : Entries) (spare : ℕ) → length (laid es ((k, v) ∷ rows)) ≤ length es + spare → is_known es k ≡ false → 0 < spare
+room-first es k v rows spare room new =
+    omega (arith, room, length-put_all (insert_entry bytes_eq es k v) rows, ap length (put-new es k v new), length-append es ((k, v) ∷ []))
+
+-- rows that are all new go last
+laid-last : (front rows : Entries) → IsDistinct bytes_eq (keys_of rows) → ((v : List ℕ) → is_among (keys_of rows) v ≡ true → is_known front v ≡ false) → laid front rows ≡ front ++ rows
+unfolding IsDistinct
+laid-last front [] d h = sym (append-nil front)
+laid-last front (r ∷ rows) d h =
+    ap (λ es. laid es rows) (put-new front r.0 r.1 (h r.0 (ap (λ b. b || is_among (keys_of rows) r.0) (nat_list_eq_equiv.refl r.0))))
+    ∙ laid-last (front ++ r ∷ []) rows d.1 (λ v m. ap (list_any (bytes_eq v)) (map-append (λ (e : List ℕ × Edges). e.0) front (r ∷ [])) ∙ list_any-append (bytes_eq v) (keys_of front) (r.0 ∷ []) ∙ by v m (bytes_eq v r.0) refl)
+    ∙ append_assoc front (r ∷ []) rows
+  where
+    by : (v : List ℕ) → is_among (keys_of rows) v ≡ true → (b : Bool) → bytes_eq v r.0 ≡ b → (is_known front v || (bytes_eq v r.0 || false)) ≡ false
+    by v m true e = absurd (true≢false (sym m ∙ ap (is_among (keys_of rows)) (same_bytes v r.0 e) ∙ not_among r.0 (keys_of rows) d.0))
+    by v m false e =
+        (λ i. h v (ap (λ b. bytes_eq v r.0 || b) m ∙ or-true (bytes_eq v r.0)) i || (e i || false))
+
+pub laid-nothing : (rows : Entries) → IsDistinct bytes_eq (keys_of rows) → laid [] rows ≡ rows
+laid-nothing rows d = laid-last [] rows d (λ v m. refl)
+
 pub on_ok_both : {T E P Q R : Type 0} (r : Result T E) → (P → Q → R) → OnOk r P → OnOk r Q → OnOk r R
 on_ok_both (Ok x) f p q = f p q
 on_ok_both (Err e) f p q = tt
@@ -336,8 +373,8 @@ module _ (base : Entries) (g : IsGraph base) (old : Entries) (a : AreRows old) (
     fresh-mid : is_known mid v ≡ false
     fresh-mid = sym (is_some-lookup (bytes_eq v) mid) ∙ ap is_some none-laid
 
-    laid-last : laid base new ≡ laid base mid ++ (v, []) ∷ []
-    laid-last =
+    laid-created : laid base new ≡ laid base mid ++ (v, []) ∷ []
+    laid-created =
         ap (laid base) (last ∙ put-new mid v [] fresh-mid)
         ∙ insert_all_push bytes_eq base mid (v, [])
         ∙ put-new (laid base mid) v [] fresh-laid
@@ -349,16 +386,16 @@ module _ (base : Entries) (g : IsGraph base) (old : Entries) (a : AreRows old) (
     keys-created = ap keys_of last ∙ keys_insert_entry bytes_eq mid v [] ∙ ap (λ ks. insert_key bytes_eq ks v) (keys-row mid x p)
 
     pub laid-creates : graph_of (laid base new) ≡ with_rights (with_vertex (graph_of (laid base old)) v) x v s
-    laid-creates = ap graph_of laid-last ∙ graph-creates v x s (laid base old) (laid base mid) (alters-laid mid x p)
+    laid-creates = ap graph_of laid-created ∙ graph-creates v x s (laid base old) (laid base mid) (alters-laid mid x p)
 
     pub fits-creates : Fits base (new, names ++ v ∷ [])
     fits-creates = record {
       vertices =
-          ap keys_of laid-last
+          ap keys_of laid-created
           ∙ map-append (λ (e : List ℕ × Edges). e.0) (laid base mid) ((v, []) ∷ [])
           ∙ ap (λ ks. ks ++ v ∷ []) ((alters-laid mid x p).keys ∙ f.vertices)
           ∙ append_assoc (keys_of base) names (v ∷ []);
-      targets = targets-from_graph base new g rows-created (subst IsGraph (sym laid-last) (is_graph-creates v x s (laid base old) (laid base mid) (alters-laid mid x p) whole-graph fresh name));
+      targets = targets-from_graph base new g rows-created (subst IsGraph (sym laid-created) (is_graph-creates v x s (laid base old) (laid base mid) (alters-laid mid x p) whole-graph fresh name));
     }
 
     pub draft-created : IsDraft (new, names ++ v ∷ [])

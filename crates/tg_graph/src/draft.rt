@@ -15,6 +15,7 @@ use crate::names::Name;
 use crate::protection::Graph;
 use crate::right_sets::{Right, Rights};
 use crate::row::Row;
+use crate::row_maps;
 use crate::rules::{Refusal, Rule, RuleFault};
 use crate::shared_row::SharedRow;
 use indexmap::IndexMap;
@@ -115,22 +116,6 @@ fn narrow(
     }
 }
 
-// Puts a row in, for which there is room.
-fn put(rows: &mut IndexMap<Name, SharedRow>, n: Name, row: SharedRow)
-    requires room { 0 < spare rows.old }
-    ensures { rows.new.entries ≡ insert_entry bytes_eq rows.old.entries n row }
-{
-    let _ = rows.insert(n, row);
-}
-
-// The same rows, shared.
-fn copied(rows: &IndexMap<Name, SharedRow>) -> Result<IndexMap<Name, SharedRow>, AllocError>
-    ensures { IfOk result (λ copy. copy.entries ≡ rows.now.entries) }
-{
-    let copy = rows.clone()?;
-    Ok(copy)
-}
-
 impl Draft {
     /// The draft that changes nothing. It fits each graph.
     pub fn new(alloc: Global) -> Draft
@@ -180,6 +165,7 @@ impl Draft {
         ensures fits { Fits base.now self.new }
         ensures err { OnErr result (self.new ≡ self.old) }
     {
+        // The base is a graph.
         let _ = base.len();
         widen(&mut self.rows, base, x, y, rights)?;
         Ok(())
@@ -196,6 +182,7 @@ impl Draft {
         ensures fits { Fits base.now self.new }
         ensures err { OnErr result (self.new ≡ self.old) }
     {
+        // The base is a graph.
         let _ = base.len();
         narrow(&mut self.rows, base, x, y, rights)?;
         Ok(())
@@ -213,13 +200,14 @@ impl Draft {
         ensures fits { Fits base.now self.new }
         ensures err { OnErr result (self.new ≡ self.old) }
     {
+        // The base is a graph, and the bytes of a `Name` are a name.
         let _ = base.len();
         let _ = n.as_bytes();
         let row = SharedRow::new(self.alloc)?;
         self.rows.reserve(2)?;
         self.created.reserve(1)?;
         widen(&mut self.rows, base, x, n, rights)?;
-        put(&mut self.rows, n, row);
+        row_maps::put(&mut self.rows, n, row);
         self.created.push_reserved(n);
         Ok(())
     }
@@ -244,7 +232,7 @@ impl Draft {
         ensures fits { Fits base.now self.new }
         ensures kept { OnErr result (self.new ≡ self.old) }
     {
-        checks::check(&Laid { base, draft: self }, rule)?;
+        self.check(base, rule)?;
         match *rule {
             Rule::Take { x, z, rights, .. } => self.give(base, x, z, rights)?,
             Rule::Grant { y, z, rights, .. } => self.give(base, y, z, rights)?,
@@ -259,11 +247,14 @@ impl Draft {
         requires { Fits base.now self.now }
         ensures { IfOk result (λ whole. whole ≡ laid_over base.now self.now) }
     {
-        let _ = base.len();
-        let mut whole = base.copy()?;
-        let mut rows = copied(&self.rows)?;
-        whole.lay(&mut rows)?;
-        Ok(whole)
+        let mut rows = row_maps::shared(&base.rows)?;
+        let changes = row_maps::shared(&self.rows)?;
+        rows.reserve(self.created())?;
+        row_maps::put_all(&mut rows, changes);
+        Ok(Graph {
+            rows,
+            alloc: base.alloc,
+        })
     }
 }
 
@@ -289,7 +280,7 @@ impl Model for Ready {
 
     ghost view = { λ r. (r.rows.entries, r.draft) };
 
-    ghost invariant = { λ r. IsGraph r.rows.entries × Fits r.rows.entries r.draft × (length r.draft.0 ≤ spare r.rows) };
+    ghost invariant = { λ r. IsGraph r.rows.entries × Fits r.rows.entries r.draft × (length r.draft.1 ≤ spare r.rows) };
 }
 
 impl Ready {
@@ -299,10 +290,10 @@ impl Ready {
         ensures ok { IfOk result (λ ready. ready ≡ (base, draft)) }
         ensures err { IfErr result (λ parts. parts ≡ (base, draft)) }
     {
-        let (mut rows, alloc) = base.into_rows();
-        match rows.reserve(draft.rows.len()) {
+        let Graph { mut rows, alloc } = base;
+        match rows.reserve(draft.created()) {
             Ok(()) => Ok(Ready { rows, alloc, draft }),
-            Err(_) => Err((Graph::from_rows(rows, alloc), draft)),
+            Err(AllocError) => Err((Graph { rows, alloc }, draft)),
         }
     }
 
@@ -315,12 +306,9 @@ impl Ready {
             alloc,
             draft,
         } = self;
-        let Draft {
-            rows: mut changes,
-            ..
-        } = draft;
-        let _ = rows.append(&mut changes);
-        Graph::from_rows(rows, alloc)
+        let Draft { rows: changed, .. } = draft;
+        row_maps::put_all(&mut rows, changed);
+        Graph { rows, alloc }
     }
 
     /// The graph and the draft.
@@ -328,7 +316,7 @@ impl Ready {
         ensures { result ≡ self }
     {
         let Ready { rows, alloc, draft } = self;
-        (Graph::from_rows(rows, alloc), draft)
+        (Graph { rows, alloc }, draft)
     }
 }
 
@@ -338,7 +326,7 @@ impl Graph {
         ensures value { result ≡ ([], []) }
         ensures fits { Fits self.now result }
     {
-        Draft::new(self.allocator())
+        Draft::new(self.alloc)
     }
 
     /// Takes the draft's changes in, at the cost of the draft's rows. Where memory is refused, nothing is changed,
@@ -349,19 +337,13 @@ impl Graph {
         ensures err { OnErr result (self.new ≡ self.old) }
         ensures back { IfErr result (λ back. back ≡ draft) }
     {
-        let _ = self.len();
-        let Draft {
-            mut rows,
-            created,
-            alloc,
-        } = draft;
-        match self.lay(&mut rows) {
-            Ok(()) => Ok(()),
-            Err(_) => Err(Draft {
-                rows,
-                created,
-                alloc,
-            }),
+        match self.rows.reserve(draft.created()) {
+            Ok(()) => {
+                let Draft { rows, .. } = draft;
+                row_maps::put_all(&mut self.rows, rows);
+                Ok(())
+            }
+            Err(AllocError) => Err(draft),
         }
     }
 }

@@ -129,3 +129,35 @@ fn a_draft_made_ready(rt: HostRuntime) -> Result<(), Fail> {
     }
     Ok(())
 }
+
+fn applies(rt: &impl Abort, g: &mut Graph, rule: Rule)
+    requires { IsNamed (rights_of rule) }
+{
+    assert!(rt; g.apply(&rule) == Ok(()));
+}
+
+#[test]
+fn a_change_stays_in_its_copy(rt: HostRuntime) -> Result<(), Fail> {
+    let base = three(rt.alloc())?;
+    let mut shared = base.copy()?;
+    let mut unshared = base.copy_unshared()?;
+    let (a, b, c) = (name(b"a"), name(b"b"), name(b"c"));
+    applies(&rt, &mut shared, take_r());
+    applies(&rt, &mut unshared, remove_r());
+    assert!(rt; !base.holds(a, Right::R, c) && base.holds(b, Right::R, c));
+    assert!(rt; shared.holds(a, Right::R, c) && shared.holds(b, Right::R, c));
+    assert!(rt; !unshared.holds(a, Right::R, c) && !unshared.holds(b, Right::R, c));
+    Ok(())
+}
+
+#[test]
+fn a_change_leaves_the_copies(rt: HostRuntime) -> Result<(), Fail> {
+    let mut base = three(rt.alloc())?;
+    let shared = base.copy()?;
+    let unshared = base.copy_unshared()?;
+    let (b, c) = (name(b"b"), name(b"c"));
+    applies(&rt, &mut base, remove_r());
+    assert!(rt; !base.holds(b, Right::R, c));
+    assert!(rt; shared.holds(b, Right::R, c) && unshared.holds(b, Right::R, c));
+    Ok(())
+}

@@ -2,24 +2,27 @@
 #![tactic(auto)]
 
 mod checks;
-pub mod draft;
+mod draft;
+#[cfg(test)]
+mod draft_memory_tests;
 #[cfg(test)]
 mod draft_tests;
 pub mod laws;
 mod limits;
 #[cfg(test)]
 mod memory_tests;
-pub mod names;
-pub mod protection;
-pub mod right_sets;
+mod names;
+mod protection;
+mod right_sets;
 mod row;
-pub mod rules;
-pub mod session;
+mod row_maps;
+mod rules;
+mod session;
 mod shared_row;
 #[cfg(test)]
 mod tests;
 
-pub use draft::{Draft, Ready};
+pub use draft::{Draft, Ready, drafts_apart_commute, drafts_fit_by_names};
 pub use limits::{MOST_CELLS, MOST_SEATS, MOST_VERTICES};
 pub use names::{Name, NameFault};
 pub use protection::{EdgeFault, Graph, VertexFault};

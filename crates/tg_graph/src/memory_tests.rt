@@ -12,7 +12,7 @@ use std::process::Abort;
 use std::test::Fail;
 
 // The names _0, _1 and _2.
-fn names() -> (Name, Name, Name) {
+pub fn names() -> (Name, Name, Name) {
     (Name::helper(0), Name::helper(1), Name::helper(2))
 }
 
@@ -30,7 +30,7 @@ fn same_row(one: &Graph, other: &Graph, position: usize) -> bool {
 }
 
 // Whether two graphs have the same vertices in the same order, with the same rows.
-fn same(one: &Graph, other: &Graph) -> bool {
+pub fn same(one: &Graph, other: &Graph) -> bool {
     if one.len() != other.len() {
         return false;
     }
@@ -42,7 +42,7 @@ fn same(one: &Graph, other: &Graph) -> bool {
     true
 }
 
-fn copied(rt: &impl Abort, g: &Graph) -> Result<Graph, AllocError> {
+pub fn copied(rt: &impl Abort, g: &Graph) -> Result<Graph, AllocError> {
     let copy = match g.copy() {
         Ok(copy) => copy,
         Err(_) => g.copy()?,
@@ -89,7 +89,7 @@ fn applies(rt: &impl Abort, g: &mut Graph, rule: Rule) -> Result<(), AllocError>
 }
 
 // The vertex _0, which has t and g over itself.
-fn one(rt: &impl Abort, g: &mut Graph) -> Result<(), AllocError> {
+pub fn one(rt: &impl Abort, g: &mut Graph) -> Result<(), AllocError> {
     let (x, _, _) = names();
     adds_vertex(rt, g, x)?;
     adds_edge(
@@ -102,7 +102,7 @@ fn one(rt: &impl Abort, g: &mut Graph) -> Result<(), AllocError> {
 }
 
 // _0 creates _1 with g, grants it t over itself, and creates _2.
-fn rule_at(place: usize) -> Rule
+pub fn rule_at(place: usize) -> Rule
     ensures { IsNamed (rights_of result) }
 {
     let (x, y, z) = names();

@@ -15,6 +15,7 @@ use crate::checks::{self, Rows};
 use crate::names::Name;
 use crate::right_sets::{Right, Rights};
 use crate::row::Row;
+use crate::row_maps;
 use crate::rules::{Refusal, Rule, RuleFault};
 use crate::shared_row::SharedRow;
 use bitflags::Flags;
@@ -29,8 +30,8 @@ use std::marker::Model;
 /// A call that is refused changes nothing.
 #[derive(Drop)]
 pub struct Graph {
-    rows: IndexMap<Name, SharedRow>,
-    alloc: Global,
+    pub(crate) rows: IndexMap<Name, SharedRow>,
+    pub(crate) alloc: Global,
 }
 
 impl Model for Graph {
@@ -86,15 +87,6 @@ fn link(
         Some(row) => row.add_new(y, rights),
         None => Ok(false),
     }
-}
-
-// Adds a vertex with its row, for which there is room.
-fn append(rows: &mut IndexMap<Name, SharedRow>, n: Name, row: SharedRow)
-    requires room { 0 < spare rows.old }
-    requires fresh { is_known rows.old.entries n ≡ false }
-    ensures { rows.new.entries ≡ rows.old.entries ++ (n, row) ∷ [] }
-{
-    let _ = rows.insert(n, row);
 }
 
 /// Why a vertex was not added.
@@ -153,48 +145,15 @@ impl Rows for Graph {
 }
 
 impl Graph {
-    // The row of a vertex, shared with the graph.
+    // A copy of the row of a vertex.
     pub(crate) fn row_of(&self, x: Name) -> Result<SharedRow, AllocError>
         requires { is_known self.now x ≡ true }
         ensures row { IfOk result (λ row. lookup (bytes_eq x) self.now ≡ Some row) }
     {
         match self.rows.get(&x) {
-            Some(row) => row.clone(),
+            Some(row) => row.unshared(self.alloc),
             None => SharedRow::new(self.alloc),
         }
-    }
-
-    // Where the rows take memory.
-    pub(crate) fn allocator(&self) -> Global {
-        self.alloc
-    }
-
-    // The rows.
-    pub(crate) fn into_rows(self) -> (IndexMap<Name, SharedRow>, Global)
-        ensures rows { result.0.entries ≡ self }
-        ensures graph { IsGraph self }
-    {
-        let Graph { rows, alloc } = self;
-        (rows, alloc)
-    }
-
-    // The graph of the rows.
-    pub(crate) fn from_rows(rows: IndexMap<Name, SharedRow>, alloc: Global) -> Graph
-        requires { IsGraph rows.entries }
-        ensures { result ≡ rows.entries }
-    {
-        Graph { rows, alloc }
-    }
-
-    // Puts each of the rows in. Where memory is refused, they stay where they are.
-    pub(crate) fn lay(&mut self, rows: &mut IndexMap<Name, SharedRow>) -> Result<(), AllocError>
-        requires { IsGraph (insert_all bytes_eq self.old rows.old.entries) }
-        ensures laid { OnOk result (self.new ≡ insert_all bytes_eq self.old rows.old.entries) }
-        ensures err { OnErr result (self.new ≡ self.old) }
-        ensures left { OnErr result (rows.new.entries ≡ rows.old.entries) }
-    {
-        self.rows.append(rows)?;
-        Ok(())
     }
 }
 
@@ -242,15 +201,6 @@ impl Graph {
         }
     }
 
-    // The label of the edge from x to y, empty where there is none.
-    fn label_between(&self, x: Name, y: Name) -> Rights
-        ensures value { result ≡ label_of self.now x y }
-        ensures label { result ≡ label_between (graph_of self.now) x y }
-        ensures named { IsNamed result }
-    {
-        checks::label_between(self, x, y)
-    }
-
     /// Whether x has a right over y. Where one of them is no vertex, it has not.
     pub fn holds(&self, x: Name, right: Right, y: Name) -> bool
         ensures { result ≡ (graph_of self.now).holds x right y }
@@ -293,10 +243,11 @@ impl Graph {
         if self.knows(n) {
             return Err(VertexFault::Taken);
         }
+        // The bytes of a `Name` are a name, as those of each vertex must be.
         let _ = n.as_bytes();
         let row = SharedRow::new(self.alloc)?;
         self.rows.reserve(1)?;
-        append(&mut self.rows, n, row);
+        row_maps::put(&mut self.rows, n, row);
         Ok(())
     }
 
@@ -309,11 +260,12 @@ impl Graph {
             (graph_of self.new ≡ with_rights (with_vertex (graph_of self.old) n) x n rights) }
         ensures err { OnErr result (self.new ≡ self.old) }
     {
+        // The bytes of a `Name` are a name, as those of each vertex must be.
         let _ = n.as_bytes();
         let row = SharedRow::new(self.alloc)?;
         self.rows.reserve(1)?;
         widen(&mut self.rows, x, n, rights)?;
-        append(&mut self.rows, n, row);
+        row_maps::put(&mut self.rows, n, row);
         Ok(())
     }
 }
@@ -362,7 +314,7 @@ impl Graph {
         ensures { result ≡ (if is_empty_set (label_between (graph_of self.now) x y)
             then EdgeFault.Empty else EdgeFault.EdgeThere) }
     {
-        if self.label_between(x, y).is_empty() {
+        if checks::label_between(self, x, y).is_empty() {
             EdgeFault::Empty
         } else {
             EdgeFault::EdgeThere
@@ -412,12 +364,23 @@ impl Graph {
         }
     }
 
-    /// A graph with the same vertices at the same positions, and the same edges.
+    /// A graph with the same vertices at the same positions, and the same edges. It shares each row with this one
+    /// until the row is changed in one of them, so it costs time and memory in the number of vertices.
     pub fn copy(&self) -> Result<Graph, AllocError>
         ensures { IfOk result (λ copy. copy ≡ self.now) }
     {
         Ok(Graph {
-            rows: self.rows.clone()?,
+            rows: row_maps::shared(&self.rows)?,
+            alloc: self.alloc,
+        })
+    }
+
+    /// A copy that shares nothing with this graph, for another thread: neither of them then touches a word of the other.
+    pub fn copy_unshared(&self) -> Result<Graph, AllocError>
+        ensures { IfOk result (λ copy. copy ≡ self.now) }
+    {
+        Ok(Graph {
+            rows: row_maps::unshared(self.alloc, &self.rows)?,
             alloc: self.alloc,
         })
     }
@@ -427,7 +390,7 @@ impl Graph {
         ensures { result ≡ label_at (graph_of self.now) x y }
     {
         if self.knows(x) && self.knows(y) {
-            Some(self.label_between(x, y))
+            Some(checks::label_between(self, x, y))
         } else {
             None
         }

@@ -1,8 +1,8 @@
 //! The edges out of one vertex.
-ghost use Rattle.std.specs.Prelude.{◌≡◌, true, false, Some, None, ◌<◌, not, [], IfOk, IfErr, OnOk, OnErr, MatchBool, bytes_eq, length, slice_get};
+ghost use Rattle.std.specs.Prelude.{◌≡◌, true, false, Some, None, ◌<◌, [], IfOk, IfErr, OnOk, OnErr, bytes_eq, length, slice_get};
 ghost use Rattle.std.specs.Map.{lookup};
 ghost use Rattle.tg_graph.specs.Sets.{IsNamed};
-ghost use Rattle.tg_graph.specs.Rows.{label_in, IsLabel, IsRow, Puts, is_target, Adds, TakesAway, IsPlaceOf, IsGapFor};
+ghost use Rattle.tg_graph.specs.Rows.{label_in, IsLabel, IsRow, Puts, Adds, TakesAway, IsPlaceOf, IsGapFor};
 
 use crate::names::Name;
 use crate::right_sets::Rights;
@@ -91,7 +91,7 @@ impl Row {
     {
         match self.place(y) {
             Ok(place) => self.label_at(place, y),
-            Err(_) => Rights::empty(),
+            Err(_place) => Rights::empty(),
         }
     }
 
@@ -133,6 +133,7 @@ impl Row {
         ensures err { OnErr result (self.new ≡ self.old) }
         ensures row { IsRow self.new }
     {
+        // The edges are a row before and, where nothing is added, after.
         let _ = &self.edges;
         if rights.is_empty() {
             return Ok(());
@@ -144,25 +145,6 @@ impl Row {
                 Ok(())
             }
             Err(place) => self.insert(place, y, rights),
-        }
-    }
-
-    /// Adds the edge to a vertex if there is none, and says whether there was none.
-    pub fn add_new(&mut self, y: Name, rights: Rights) -> Result<bool, AllocError>
-        requires { IsLabel rights }
-        ensures said { IfOk result (λ added. added ≡ not (is_target self.old y)) }
-        ensures added { IfOk result
-            (λ added. MatchBool added (Adds self.old self.new y rights) (self.new ≡ self.old)) }
-        ensures absent { OnErr result (is_target self.old y ≡ false) }
-        ensures err { OnErr result (self.new ≡ self.old) }
-        ensures row { IsRow self.new }
-    {
-        match self.place(y) {
-            Ok(_) => Ok(false),
-            Err(place) => {
-                self.insert(place, y, rights)?;
-                Ok(true)
-            }
         }
     }
 

@@ -11,7 +11,7 @@ use std::alloc::{AllocError, Global};
 use std::marker::Model;
 use std::sync::Arc;
 
-/// The edges out of one vertex. Copies share them, and one that is changed gets its own first.
+/// The edges out of one vertex. Clones share them, and one that is changed gets its own first.
 #[derive(Drop)]
 pub struct SharedRow {
     row: Arc<Row>,
@@ -44,10 +44,19 @@ impl SharedRow {
     pub fn new(alloc: Global) -> Result<SharedRow, AllocError>
         ensures { IfOk result (λ row. row ≡ []) }
     {
-        match Arc::new(alloc, Row::new(alloc)) {
-            Ok(row) => Ok(SharedRow { row }),
-            Err(_) => Err(AllocError),
-        }
+        Ok(SharedRow {
+            row: Arc::new(alloc, Row::new(alloc))?,
+        })
+    }
+
+    /// The same edges, shared with nobody.
+    pub fn unshared(&self, alloc: Global) -> Result<SharedRow, AllocError>
+        ensures { IfOk result (λ row. row ≡ self.now) }
+    {
+        let row = self.edges().clone()?;
+        Ok(SharedRow {
+            row: Arc::new(alloc, row)?,
+        })
     }
 
     /// The edges.

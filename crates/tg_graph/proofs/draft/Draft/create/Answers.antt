@@ -18,7 +18,7 @@ invariant_of-self-2 c =
     let mid = c.widen.new.rows.entries in
     let a = subst AreRows (sym same) c.self.invariant.rows in
     let f = subst (λ es. Fits base (es, names)) (sym same) (subst (Fits base) (sym c.self.view_is) c.requires.fits) in
-    let last = c.put.ensures ∙ ap (insert_entry bytes_eq mid n) c.in_ok-row.ensures in
+    let last = c.put.ensures.put ∙ ap (insert_entry bytes_eq mid n) c.in_ok-row.ensures in
     let fresh = ap (λ es. is_known (laid_over base (es, names)) n) same ∙ ap (λ d. is_known (laid_over base d) n) c.self.view_is ∙ c.requires.fresh in
     let created = c.push_reserved.ensures.items ∙ ap (λ l. l ++ n ∷ []) c.in_ok-reserve-2.ensures.items in
     subst (λ l. IsDraft (c.put.new.rows.entries, l)) (sym created) (draft-created base c.len.ensures.graph c.reserve.new.self.entries a names f mid c.put.new.rows.entries c.args.x n c.args.rights c.in_ok-widen.ensures.widened last fresh c.as_bytes.ensures.valid)
@@ -32,7 +32,7 @@ returns-clause-created c =
     let mid = c.widen.new.rows.entries in
     let a = subst AreRows (sym same) c.self.invariant.rows in
     let f = subst (λ es. Fits base (es, names)) (sym same) (subst (Fits base) (sym c.self.view_is) c.requires.fits) in
-    let last = c.put.ensures ∙ ap (insert_entry bytes_eq mid n) c.in_ok-row.ensures in
+    let last = c.put.ensures.put ∙ ap (insert_entry bytes_eq mid n) c.in_ok-row.ensures in
     let fresh = ap (λ es. is_known (laid_over base (es, names)) n) same ∙ ap (λ d. is_known (laid_over base d) n) c.self.view_is ∙ c.requires.fresh in
     laid-creates base c.len.ensures.graph c.reserve.new.self.entries a names f mid c.put.new.rows.entries c.args.x n c.args.rights c.in_ok-widen.ensures.widened last fresh c.as_bytes.ensures.valid
     ∙ ap (λ es. with_rights (with_vertex (graph_of (laid_over base (es, names))) n) c.args.x n c.args.rights) same
@@ -47,7 +47,7 @@ returns-clause-rows c =
     let mid = c.widen.new.rows.entries in
     let a = subst AreRows (sym same) c.self.invariant.rows in
     let f = subst (λ es. Fits base (es, names)) (sym same) (subst (Fits base) (sym c.self.view_is) c.requires.fits) in
-    let last = c.put.ensures ∙ ap (insert_entry bytes_eq mid n) c.in_ok-row.ensures in
+    let last = c.put.ensures.put ∙ ap (insert_entry bytes_eq mid n) c.in_ok-row.ensures in
     let fresh = ap (λ es. is_known (laid_over base (es, names)) n) same ∙ ap (λ d. is_known (laid_over base d) n) c.self.view_is ∙ c.requires.fresh in
     keys-created base c.len.ensures.graph c.reserve.new.self.entries a names f mid c.put.new.rows.entries c.args.x n c.args.rights c.in_ok-widen.ensures.widened last fresh c.as_bytes.ensures.valid
     ∙ ap (λ es. insert_all bytes_eq (keys_of es) (c.args.x ∷ n ∷ [])) same
@@ -62,7 +62,7 @@ returns-clause-fits c =
     let mid = c.widen.new.rows.entries in
     let a = subst AreRows (sym same) c.self.invariant.rows in
     let f = subst (λ es. Fits base (es, names)) (sym same) (subst (Fits base) (sym c.self.view_is) c.requires.fits) in
-    let last = c.put.ensures ∙ ap (insert_entry bytes_eq mid n) c.in_ok-row.ensures in
+    let last = c.put.ensures.put ∙ ap (insert_entry bytes_eq mid n) c.in_ok-row.ensures in
     let fresh = ap (λ es. is_known (laid_over base (es, names)) n) same ∙ ap (λ d. is_known (laid_over base d) n) c.self.view_is ∙ c.requires.fresh in
     let created = c.push_reserved.ensures.items ∙ ap (λ l. l ++ n ∷ []) c.in_ok-reserve-2.ensures.items in
     subst (λ l. Fits base (c.put.new.rows.entries, l)) (sym created) (fits-creates base c.len.ensures.graph c.reserve.new.self.entries a names f mid c.put.new.rows.entries c.args.x n c.args.rights c.in_ok-widen.ensures.widened last fresh c.as_bytes.ensures.valid)

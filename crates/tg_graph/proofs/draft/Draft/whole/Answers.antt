@@ -1,18 +1,24 @@
-use Rattle.std.proofs.Common.{sym, subst, ap, ◌∙◌, bytes_eq}
+use Rattle.std.proofs.Common.{◌≡◌, ◌∙◌, sym, ap, subst, length, arith, bytes_eq}
 use Rattle.indexmap.specs.IndexMap.{insert_all}
 use Rattle.tg_graph.specs.Rows.{IsGraph}
-use Rattle.tg_graph.specs.Drafts.{Fits, laid_over}
-use Rattle.tg_graph.proofs.Drafts.{whole-graph}
+use Rattle.tg_graph.specs.Drafts.{Fits}
+use Rattle.tg_graph.proofs.Drafts.{whole-graph, length-laid}
 use Rattle.tg_graph.proofs.draft.Draft.whole.Goals as goal
 
-pub lay-requires : goal.lay-requires
-lay-requires c =
-    let base = c.args.base.now in
-    subst IsGraph (λ i. insert_all bytes_eq (sym c.in_ok-whole.ensures i) (sym c.in_ok-rows.ensures i))
-    (whole-graph base c.len.ensures.graph c.self.inside.rows.entries c.self.invariant.rows c.self.inside.created.items (subst (Fits base) (sym c.self.view_is) c.requires))
+pub put_all-requires : goal.put_all-requires
+put_all-requires c =
+    let base = c.base.inside.rows.entries in
+    let rows = c.self.inside.rows.entries in
+    let same = c.in_ok-reserve.ensures.entries ∙ c.in_ok-rows.ensures in
+    let f = subst (Fits base) (sym c.self.view_is) (subst (λ es. Fits es c.args.self.now) (sym c.base.view_is) c.requires) in
+    let joined : length (insert_all bytes_eq c.reserve.new.self.entries c.in_ok-changes.changes.entries) ≡ length (insert_all bytes_eq base rows) = λ i. length (insert_all bytes_eq (same i) (c.in_ok-changes.ensures i)) in
+    record { room = omega (arith, joined, ap length same, length-laid base (rows, c.self.inside.created.items) f, ap (λ d. length d.1) c.self.view_is, c.in_ok-reserve.ensures.ok, c.created.ensures.value) }
 
-pub returns : goal.returns
-returns c =
-    c.in_ok-lay.ensures.laid
-    ∙ (λ i. insert_all bytes_eq (c.in_ok-whole.ensures i) (c.in_ok-rows.ensures i))
-    ∙ ap (laid_over c.args.base.now) c.self.view_is
+pub invariant_of-result : goal.invariant_of-result
+invariant_of-result c =
+    let base = c.base.inside.rows.entries in
+    let rows = c.self.inside.rows.entries in
+    let same = c.in_ok-reserve.ensures.entries ∙ c.in_ok-rows.ensures in
+    let f = subst (Fits base) (sym c.self.view_is) (subst (λ es. Fits es c.args.self.now) (sym c.base.view_is) c.requires) in
+    subst IsGraph (sym (c.put_all.ensures ∙ (λ i. insert_all bytes_eq (same i) (c.in_ok-changes.ensures i))))
+    (whole-graph base c.base.invariant rows c.self.invariant.rows c.self.inside.created.items f)
