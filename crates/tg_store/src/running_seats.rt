@@ -23,7 +23,8 @@ use tg_journal::{Front, Journal, MeetFault, Next, Pass, Put};
 
 /// A seat of a running store, for one thread. `Store::start` makes it, and it stays with that store.
 ///
-/// It knows the records that it has seen, and has a copy of the graph, which is the replay of those that it has taken in.
+/// It knows the records that it has seen, and has a graph, which is the replay of those that it has taken in. It shares
+/// no row of it with another seat.
 #[derive(Drop)]
 pub struct Seat {
     opening: Arc<Graph, Global>,
@@ -86,7 +87,7 @@ impl Seat {
         requires mine { pass.mine ≡ [] }
         ensures { IfOk result (λ seat. seat ≡ seat_from (arc_value opening.now) pass) }
     {
-        let graph = opening.copy()?;
+        let graph = opening.copy_unshared()?;
         Ok(Seat {
             opening: Arc::try_clone(opening)?,
             pass,

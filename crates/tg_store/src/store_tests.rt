@@ -1,65 +1,14 @@
-ghost use Rattle.std.specs.Prelude.{◌≡◌, ◌+◌, ◌<◌, ℕ, All, IfOk, length, slice_get, Some};
-ghost use Rattle.tg_graph.specs.Sets.{IsNamed};
+ghost use Rattle.std.specs.Prelude.{All, IfOk};
 ghost use Rattle.tg_store.specs.StepWords.{IsNamedStep};
-ghost use Rattle.tg_store.specs.Running.{RunningSeat, IsOf, first_seat};
+ghost use Rattle.tg_store.specs.Running.{IsOf};
 
-use crate::{Begun, CommitFault, Committed, Seat, Session, Store, StoreFault};
+use crate::test_helpers::{create, graph, holds, name, set, share, take};
+use crate::{BeginFault, Begun, CommitFault, Committed, Seat, Session, Store, StoreFault};
 use std::alloc::{AllocError, Global};
 use std::process::Abort;
 use std::test::Fail;
 use std::thread;
 use tg_graph::{Graph, Name, Refusal, Reply, Right, Rights, Rule, Step};
-
-fn name(letter: u8) -> Name {
-    match Name::parse(&[letter]) {
-        Ok(name) => name,
-        Err(_) => Name::helper(7),
-    }
-}
-
-fn set(letters: &[u8]) -> Rights
-    ensures { IsNamed result }
-{
-    match Rights::from_letters(letters) {
-        Some(rights) => rights,
-        None => Rights::of(Right::E),
-    }
-}
-
-// The graph with a vertex for each letter, and an edge for each three letters: source, target and right.
-fn graph(alloc: Global, vertices: &[u8], edges: &[[u8; 3]]) -> Result<Graph, Fail> {
-    let mut graph = Graph::new(alloc);
-    for letter in vertices {
-        graph.add_vertex(name(*letter))?;
-    }
-    for edge in edges {
-        let [x, y, right] = *edge;
-        graph.add_edge(name(x), name(y), set(&[right]))?;
-    }
-    Ok(graph)
-}
-
-fn take(letters: [u8; 3], rights: &[u8]) -> Step
-    ensures { IsNamedStep result }
-{
-    let [x, y, z] = letters;
-    Step::Do(Rule::Take {
-        x: name(x),
-        y: name(y),
-        z: name(z),
-        rights: set(rights),
-    })
-}
-
-fn create(x: u8, n: Name, rights: &[u8]) -> Step
-    ensures { IsNamedStep result }
-{
-    Step::Do(Rule::Create {
-        x: name(x),
-        n,
-        rights: set(rights),
-    })
-}
 
 // A store with two seats.
 fn opened(rt: &impl Abort, alloc: Global, graph: &Graph, cells: usize) -> (Store, Seat, Seat)
@@ -123,154 +72,263 @@ fn refused(rt: &impl Abort, store: &Store, session: Session, fault: CommitFault)
     }
 }
 
+// Its graph has the right from x over y.
+fn has(rt: &impl Abort, seat: &Seat, x: u8, right: Right, y: u8) -> bool {
+    seat.graph().holds(name(rt, x), right, name(rt, y))
+}
+
 #[test]
 fn a_row_that_was_read(rt: HostRuntime) -> Result<(), Fail> {
-    let g = graph(rt.alloc(), b"abc", &[*b"abt", *b"acw", *b"bat", *b"bcr"])?;
+    let g = graph(
+        &rt,
+        rt.alloc(),
+        b"abc",
+        &[*b"abt", *b"acw", *b"bat", *b"bcr"],
+    )?;
     let (store, one, two) = opened(&rt, rt.alloc(), &g, 8);
     let mut first = begun(&rt, &store, one);
     let mut second = begun(&rt, &store, two);
-    says(&rt, &store, &mut first, take(*b"abc", b"r"), Reply::Done);
-    says(&rt, &store, &mut second, take(*b"bac", b"w"), Reply::Done);
+    says(
+        &rt,
+        &store,
+        &mut first,
+        take(&rt, b'a', b'b', b'c', b"r"),
+        Reply::Done,
+    );
+    says(
+        &rt,
+        &store,
+        &mut second,
+        take(&rt, b'b', b'a', b'c', b"w"),
+        Reply::Done,
+    );
     let one = done(&rt, &store, first, 0);
-    assert!(rt; one.graph().holds(name(b'a'), Right::R, name(b'c')));
-    let fault = CommitFault::Changed {
+    assert!(rt; has(&rt, &one, b'a', Right::R, b'c'));
+    let changed = CommitFault::Changed {
         place: 0,
-        name: name(b'a'),
+        name: name(&rt, b'a'),
     };
-    let two = refused(&rt, &store, second, fault);
+    let two = refused(&rt, &store, second, changed);
     assert!(rt; two.taken() == 0);
     let two = begun(&rt, &store, two).abort();
-    assert!(rt; two.taken() == 1);
-    let label = two.graph().label(name(b'a'), name(b'c'));
-    assert!(rt; label == Some(set(b"rw")));
-    let label = two.graph().label(name(b'b'), name(b'c'));
-    assert!(rt; label == Some(set(b"r")));
+    assert!(rt; two.taken() == 1 && two.number() == 2);
+    let label = two.graph().label(name(&rt, b'a'), name(&rt, b'c'));
+    assert!(rt; label == Some(set(&rt, b"rw")));
+    let label = two.graph().label(name(&rt, b'b'), name(&rt, b'c'));
+    assert!(rt; label == Some(set(&rt, b"r")));
     Ok(())
 }
 
 #[test]
 fn a_vertex_that_was_missing(rt: HostRuntime) -> Result<(), Fail> {
-    let g = graph(rt.alloc(), b"abc", &[*b"abt"])?;
+    let g = graph(&rt, rt.alloc(), b"abc", &[*b"abt"])?;
     let (store, one, two) = opened(&rt, rt.alloc(), &g, 8);
     let mut first = begun(&rt, &store, one);
-    let unknown = Reply::Refused(Refusal::Unknown(name(b'n')));
-    says(&rt, &store, &mut first, take(*b"abn", b"r"), unknown);
-    let mut second = begun(&rt, &store, two);
+    let unknown = Reply::Refused(Refusal::Unknown(name(&rt, b'n')));
     says(
         &rt,
         &store,
-        &mut second,
-        create(b'c', name(b'n'), b"r"),
-        Reply::Done,
+        &mut first,
+        take(&rt, b'a', b'b', b'n', b"r"),
+        unknown,
     );
+    let mut second = begun(&rt, &store, two);
+    let creation = create(&rt, name(&rt, b'c'), b'n', b"r");
+    says(&rt, &store, &mut second, creation, Reply::Done);
     let two = done(&rt, &store, second, 0);
     assert!(rt; two.graph().len() == 4);
-    let fault = CommitFault::Changed {
+    let changed = CommitFault::Changed {
         place: 0,
-        name: name(b'n'),
+        name: name(&rt, b'n'),
     };
-    let _ = refused(&rt, &store, first, fault);
+    let one = refused(&rt, &store, first, changed);
+    assert!(rt; one.taken() == 0);
     Ok(())
 }
 
 #[test]
 fn sessions_apart(rt: HostRuntime) -> Result<(), Fail> {
-    let g = graph(rt.alloc(), b"abcd", &[*b"abt", *b"bcr"])?;
+    let g = graph(&rt, rt.alloc(), b"abcd", &[*b"abt", *b"bcr"])?;
     let (store, one, two) = opened(&rt, rt.alloc(), &g, 8);
     let mut first = begun(&rt, &store, one);
     let mut second = begun(&rt, &store, two);
-    says(&rt, &store, &mut first, take(*b"abc", b"r"), Reply::Done);
     says(
         &rt,
         &store,
-        &mut second,
-        create(b'd', name(b'n'), b"g"),
+        &mut first,
+        take(&rt, b'a', b'b', b'c', b"r"),
         Reply::Done,
     );
-    let _two = done(&rt, &store, second, 0);
+    let creation = create(&rt, name(&rt, b'd'), b'n', b"g");
+    says(&rt, &store, &mut second, creation, Reply::Done);
+    let two = done(&rt, &store, second, 0);
+    assert!(rt; two.taken() == 1);
     let one = done(&rt, &store, first, 1);
     assert!(rt; one.taken() == 2 && one.graph().len() == 5);
-    assert!(rt; one.graph().holds(name(b'a'), Right::R, name(b'c')));
-    assert!(rt; one.graph().holds(name(b'd'), Right::G, name(b'n')));
+    assert!(rt; has(&rt, &one, b'a', Right::R, b'c') && has(&rt, &one, b'd', Right::G, b'n'));
     Ok(())
 }
 
+// A look finds what is there: without a front, a seat that begins takes in what another has put.
 #[test]
 fn begin_finds_commits(rt: HostRuntime) -> Result<(), Fail> {
-    let g = graph(rt.alloc(), b"abc", &[*b"abt", *b"bcr"])?;
+    let g = graph(&rt, rt.alloc(), b"abc", &[*b"abt", *b"bcr"])?;
     let (store, one, two) = opened(&rt, rt.alloc(), &g, 8);
     let mut first = begun(&rt, &store, one);
-    says(&rt, &store, &mut first, take(*b"abc", b"r"), Reply::Done);
-    let _one = done(&rt, &store, first, 0);
+    says(
+        &rt,
+        &store,
+        &mut first,
+        take(&rt, b'a', b'b', b'c', b"r"),
+        Reply::Done,
+    );
+    let one = done(&rt, &store, first, 0);
+    assert!(rt; one.taken() == 1);
     let mut second = begun(&rt, &store, two);
-    let (x, y) = (name(b'a'), name(b'c'));
-    let right = Right::R;
     says(
         &rt,
         &store,
         &mut second,
-        Step::Holds { right, x, y },
+        holds(&rt, Right::R, b'a', b'c'),
         Reply::Yes,
     );
-    let right = Right::W;
     says(
         &rt,
         &store,
         &mut second,
-        Step::Share { right, x, y },
+        share(&rt, Right::W, b'a', b'c'),
         Reply::No,
     );
     let two = done(&rt, &store, second, 1);
-    assert!(rt; two.graph().holds(x, Right::R, y));
+    assert!(rt; has(&rt, &two, b'a', Right::R, b'c'));
     Ok(())
 }
 
 #[test]
 fn full_journal(rt: HostRuntime) -> Result<(), Fail> {
-    let g = graph(rt.alloc(), b"", &[])?;
-    let (store, one, _two) = opened(&rt, rt.alloc(), &g, 1);
+    let g = graph(&rt, rt.alloc(), b"", &[])?;
+    let (store, one, two) = opened(&rt, rt.alloc(), &g, 1);
     let first = begun(&rt, &store, one);
     let one = done(&rt, &store, first, 0);
     let first = begun(&rt, &store, one);
     let one = refused(&rt, &store, first, CommitFault::JournalFull);
     let one = begun(&rt, &store, one).abort();
-    assert!(rt; one.taken() == 1 && one.graph().len() == 0);
+    assert!(rt; one.taken() == 1 && one.graph().len() == 0 && two.taken() == 0);
+    Ok(())
+}
+
+#[test]
+fn a_crowded_session(rt: HostRuntime) -> Result<(), Fail> {
+    let mut g = Graph::new(rt.alloc());
+    for number in 0..1023 {
+        g.add_vertex(Name::helper(number))?;
+    }
+    let (store, one, two) = opened(&rt, rt.alloc(), &g, 8);
+    let mut first = begun(&rt, &store, one);
+    let mut second = begun(&rt, &store, two);
+    says(
+        &rt,
+        &store,
+        &mut first,
+        create(&rt, Name::helper(0), b'p', b"-"),
+        Reply::Done,
+    );
+    says(
+        &rt,
+        &store,
+        &mut second,
+        create(&rt, Name::helper(1), b'q', b"-"),
+        Reply::Done,
+    );
+    let one = done(&rt, &store, first, 0);
+    let two = refused(&rt, &store, second, CommitFault::Crowded { place: 0 });
+    assert!(rt; one.graph().len() == 1024 && two.taken() == 0);
+    Ok(())
+}
+
+// The seat meets what the other has seen.
+fn met(rt: &impl Abort, store: &Store, seat: &mut Seat, other: &Seat) -> Result<(), AllocError>
+    requires { IsOf store.now seat.old × IsOf store.now other.now }
+    ensures { IsOf store.now seat.new }
+{
+    let front = store.front(other)?;
+    assert!(rt; store.meet(seat, &front).is_ok());
+    Ok(())
+}
+
+// No call but a commit puts a record: the next one has the next place.
+#[test]
+fn nothing_put_in_passing(rt: HostRuntime) -> Result<(), Fail> {
+    let g = graph(&rt, rt.alloc(), b"abc", &[*b"abt", *b"bcr"])?;
+    let (store, one, mut two) = opened(&rt, rt.alloc(), &g, 4);
+    let mut first = begun(&rt, &store, one);
+    says(
+        &rt,
+        &store,
+        &mut first,
+        take(&rt, b'a', b'b', b'c', b"r"),
+        Reply::Done,
+    );
+    let one = done(&rt, &store, first, 0);
+    met(&rt, &store, &mut two, &one)?;
+    let two = begun(&rt, &store, two).abort();
+    let first = begun(&rt, &store, one);
+    let one = done(&rt, &store, first, 1);
+    assert!(rt; one.taken() == 2 && two.taken() == 1);
     Ok(())
 }
 
 #[test]
 fn seats_that_meet(rt: HostRuntime) -> Result<(), Fail> {
-    let g = graph(rt.alloc(), b"abc", &[*b"abt", *b"bcr"])?;
+    let g = graph(&rt, rt.alloc(), b"abc", &[*b"abt", *b"bcr"])?;
     let (store, one, mut two) = opened(&rt, rt.alloc(), &g, 4);
     let mut first = begun(&rt, &store, one);
-    says(&rt, &store, &mut first, take(*b"abc", b"r"), Reply::Done);
+    says(
+        &rt,
+        &store,
+        &mut first,
+        take(&rt, b'a', b'b', b'c', b"r"),
+        Reply::Done,
+    );
     let one = done(&rt, &store, first, 0);
-    let front = store.front(&one)?;
-    assert!(rt; front.len() == 1);
-    assert!(rt; store.meet(&mut two, &front).is_ok());
-    let (x, y) = (name(b'a'), name(b'c'));
-    assert!(rt; two.graph().holds(x, Right::R, y));
+    met(&rt, &store, &mut two, &one)?;
+    assert!(rt; has(&rt, &two, b'a', Right::R, b'c'));
     assert!(rt; store.at(&two, 0).is_some() && store.at(&two, 1).is_none());
     assert!(rt; !store.agreed(&[]));
-    let seats = [one, two];
-    assert!(rt; store.agreed(&seats));
-    let [_one, two] = seats;
-    let mut alone = Vec::new(rt.alloc());
-    alone.push(two)?;
-    assert!(rt; !store.agreed(alone.as_slice()));
-    let Some(two) = alone.pop() else {
-        return Ok(());
-    };
+    let (_one, two, together) = agreeing(&store, one, two);
+    let (two, alone) = lonely(&store, two);
+    assert!(rt; together && !alone);
     let mut second = begun(&rt, &store, two);
-    let right = Right::R;
     says(
         &rt,
         &store,
         &mut second,
-        Step::Holds { right, x, y },
+        holds(&rt, Right::R, b'a', b'c'),
         Reply::Yes,
     );
     Ok(())
+}
+
+// Whether the two agree.
+fn agreeing(store: &Store, one: Seat, two: Seat) -> (Seat, Seat, bool)
+    requires { IsOf store.now one × IsOf store.now two }
+    ensures { IsOf store.now result.0 × IsOf store.now result.1 }
+{
+    let seats = [one, two];
+    let agreed = store.agreed(&seats);
+    let [one, two] = seats;
+    (one, two, agreed)
+}
+
+// Whether it agrees with itself alone.
+fn lonely(store: &Store, seat: Seat) -> (Seat, bool)
+    requires { IsOf store.now seat }
+    ensures { IsOf store.now result.0 }
+{
+    let seats = [seat];
+    let agreed = store.agreed(&seats);
+    let [seat] = seats;
+    (seat, agreed)
 }
 
 #[test]
@@ -280,7 +338,7 @@ fn limits_of_a_store(rt: HostRuntime) -> Result<(), Fail> {
     for number in 0..1025 {
         many.add_vertex(Name::helper(number))?;
     }
-    let few = graph(alloc, b"abc", &[])?;
+    let few = graph(&rt, alloc, b"abc", &[])?;
     let fault = Store::start(alloc, &many, 4, 2).err();
     assert!(rt; fault == Some(StoreFault::TooManyVertices));
     assert!(rt; Store::start(alloc, &few, 0, 2).err() == Some(StoreFault::Cells));
@@ -288,25 +346,30 @@ fn limits_of_a_store(rt: HostRuntime) -> Result<(), Fail> {
     Ok(())
 }
 
-// The letter and the number in decimal.
-fn numbered(letter: u8, number: u8) -> Name {
+// The letter and the number, below 100, in decimal.
+fn numbered(letter: u8, number: u8) -> Option<Name> {
     let (tens, ones) = (b'0' + number / 10 % 10, b'0' + number % 10);
     let text = if number < 10 {
         Name::parse(&[letter, ones])
     } else {
         Name::parse(&[letter, tens, ones])
     };
-    match text {
-        Ok(name) => name,
-        Err(_) => Name::helper(7),
-    }
+    text.ok()
 }
 
-// Commits fifty sessions, each of which creates a vertex, and says where they stand.
+// x creates the vertex without rights over it.
+fn creation(x: Name, n: Name) -> Step
+    ensures { IsNamedStep result }
+{
+    let rights = Rights::of(Right::R).difference(Rights::of(Right::R));
+    Step::Do(Rule::Create { x, n, rights })
+}
+
+// Commits fifty sessions, each of which creates a vertex, and says where they stand. It ends early at any other answer.
 fn fill(
     store: &Store,
     seat: Seat,
-    x: u8,
+    x: Name,
     letter: u8,
     alloc: Global,
 ) -> Result<(Seat, Vec<usize>), AllocError>
@@ -316,11 +379,18 @@ fn fill(
     let mut seat = seat;
     let mut places = Vec::new(alloc);
     for k in 0..50 {
+        let Some(n) = numbered(letter, k) else {
+            return Ok((seat, places));
+        };
         let mut session = match store.begin(seat) {
             Begun::Session(session) => session,
-            Begun::Refused(back, _) => return Ok((back, places)),
+            Begun::Refused(back, BeginFault::Foreign(_) | BeginFault::Memory) => {
+                return Ok((back, places));
+            }
         };
-        let _ = session.step(create(x, numbered(letter, k), b"-"))?;
+        if session.step(creation(x, n))? != Reply::Done {
+            return Ok((session.abort(), places));
+        }
         seat = match store.commit(session) {
             Committed::Done(back, receipt) => {
                 places.push(receipt.place)?;
@@ -333,10 +403,22 @@ fn fill(
     Ok((seat, places))
 }
 
+// The two graphs have the same vertices at the same positions.
+fn same_vertices(one: &Graph, other: &Graph) -> bool {
+    let mut same = one.len() == other.len();
+    for position in 0..one.len() {
+        if one.name_at(position) != other.name_at(position) {
+            same = false;
+        }
+    }
+    same
+}
+
 #[test]
 fn two_seats(rt: HostRuntime) -> Result<(), Fail> {
     let alloc = rt.alloc();
-    let g = graph(alloc, b"ab", &[])?;
+    let (a, b) = (name(&rt, b'a'), name(&rt, b'b'));
+    let g = graph(&rt, alloc, b"ab", &[])?;
     let (store, one, two) = opened(&rt, alloc, &g, 100);
     let shared = &store;
     let (first, second) = thread::join(
@@ -344,11 +426,11 @@ fn two_seats(rt: HostRuntime) -> Result<(), Fail> {
         move || -> Result<(Seat, Vec<usize>), AllocError>
             requires { IsOf shared.now one }
             ensures { IfOk result (λ r. IsOf shared.entry.now r.0) }
-        { fill(shared, one, b'a', b'p', alloc) },
+        { fill(shared, one, a, b'p', alloc) },
         move || -> Result<(Seat, Vec<usize>), AllocError>
             requires { IsOf shared.now two }
             ensures { IfOk result (λ r. IsOf shared.entry.now r.0) }
-        { fill(shared, two, b'b', b'q', alloc) },
+        { fill(shared, two, b, b'q', alloc) },
     );
     let (one, places) = first?;
     let (two, others) = second?;
@@ -356,17 +438,12 @@ fn two_seats(rt: HostRuntime) -> Result<(), Fail> {
     for place in 0..100 {
         assert!(rt; places.contains(&place) != others.contains(&place));
     }
-    let mut seats = Vec::new(alloc);
-    seats.push(one)?;
-    seats.push(two)?;
-    assert!(rt; !store.agreed(seats.as_slice()));
-    let (fronts, both) = (store.front(&seats[0])?, store.front(&seats[1])?);
-    assert!(rt; store.meet(&mut seats[1], &fronts).is_ok());
-    assert!(rt; store.meet(&mut seats[0], &both).is_ok());
-    assert!(rt; store.agreed(seats.as_slice()));
-    assert!(rt; seats[0].graph().len() == 102 && seats[1].graph().len() == 102);
-    for i in 0..102 {
-        assert!(rt; seats[0].graph().name_at(i) == seats[1].graph().name_at(i));
-    }
+    let (mut one, mut two, agreed) = agreeing(&store, one, two);
+    assert!(rt; !agreed);
+    met(&rt, &store, &mut two, &one)?;
+    met(&rt, &store, &mut one, &two)?;
+    assert!(rt; one.graph().len() == 102 && same_vertices(one.graph(), two.graph()));
+    let (one, two, agreed) = agreeing(&store, one, two);
+    assert!(rt; agreed && one.taken() == 100 && two.taken() == 100);
     Ok(())
 }
