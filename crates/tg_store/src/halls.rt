@@ -1,12 +1,12 @@
 //! The monitor in one thread.
-ghost use Rattle.std.specs.Prelude.{◌≡◌, ◌+◌, ◌<◌, ◌≤◌, ◌⊎◌, ◌∷◌, ◌++◌, [], true, vec_len, All, IfOk, OnOk, OnErr, IfSome, Some, None, MatchOption, length, slice_get, map, replicate};
+ghost use Rattle.std.specs.Prelude.{◌≡◌, ◌+◌, ◌<◌, ◌≤◌, ◌⊎◌, ◌∷◌, ◌++◌, [], true, false, vec_len, All, IfOk, OnOk, OnErr, IfSome, Some, None, MatchOption, length, slice_get, map, replicate};
 ghost use Rattle.std.specs.Option.{option_map, option_copied};
 ghost use Rattle.tg_graph.specs.Graphs.{ProtectionGraph};
 ghost use Rattle.tg_graph.specs.GraphOf.{graph_of};
 ghost use Rattle.tg_graph.specs.Limits.{most_cells};
 ghost use Rattle.tg_store.specs.Answers.{AreAnswers};
 ghost use Rattle.tg_store.specs.Histories.{replay, count_of, IsLegal, IsNumbered, AreApart};
-ghost use Rattle.tg_store.specs.Worlds.{fresh_seat, seat_of, seat_in, rests_on, TakeWithin, HoldTrue, Moves, Happens, Run, IsStageable, OpensHall};
+ghost use Rattle.tg_store.specs.Worlds.{takes_memory, is_short_of_memory, fresh_seat, seat_of, seat_in, rests_on, TakeWithin, HoldTrue, Moves, Happens, Run, IsStageable, OpensHall};
 ghost use Rattle.tg_store.specs.Acts.{is_learned, is_free, MayLearn, Repeats, CatchesUp, Acts, IsStageableAct};
 ghost use Rattle.std.specs.Vec.{vec_capacity};
 ghost use Rattle.tg_store.specs.Seats.{seen_seat, IsConsistent, Rests};
@@ -101,6 +101,7 @@ fn event_at(
     ensures rests { (g : ProtectionGraph) → Rests g records.old.items seat.old → Rests g records.new.items seat.new }
     ensures consistent { IsConsistent seat.new }
     ensures counted { seat.new.commits ≡ count_of (seat_in event.now) records.new.items }
+    ensures spared { takes_memory event.now ≡ false → is_short_of_memory result ≡ false }
 {
     match *event {
         Event::Begin(_) => seat.begin(),
@@ -208,18 +209,37 @@ impl Hall {
         Some(seat.graph())
     }
 
+    // The number of a seat that has taken in the most. Each seat leads to the same graph: this one soonest.
+    fn furthest(&self) -> u32 {
+        let mut furthest = 1;
+        let mut most = 0;
+        for number in 1..=MOST_SEATS {
+            if let Some(taken) = self.taken(number) {
+                if taken > most {
+                    furthest = number;
+                    most = taken;
+                }
+            }
+        }
+        furthest
+    }
+
     /// The replay of the whole history, which is legal.
     pub fn last(&self) -> Result<Graph, AllocError>
         ensures graph { IfOk result (λ graph. graph_of graph ≡ replay (graph_of self.now.opening) self.now.history) }
         ensures legal { IsLegal (graph_of self.now.opening) self.now.history }
     {
-        replays::replayed(&self.opening, self.records.as_slice())
+        match self.seat(self.furthest()) {
+            Some(seat) => seat.replayed(self.records.as_slice()),
+            None => replays::replayed(&self.opening, self.records.as_slice()),
+        }
     }
 
     // One event.
     fn happen(&mut self, event: &Event) -> HallReply
         requires { IsStageable event.now }
-        ensures { Happens self.old event.now result self.new }
+        ensures happens { Happens self.old event.now result self.new }
+        ensures spared { takes_memory event.now ≡ false → is_short_of_memory result ≡ false }
     {
         match index_of(seat_in(event), self.seats.len()) {
             None => HallReply::Refused(HallFault::NoSeat),
@@ -229,10 +249,12 @@ impl Hall {
 
     /// One event at a seat.
     ///
-    /// `NoSeat` comes exactly where no seat has the number. What each event answers and leaves is `Happens`.
+    /// `NoSeat` comes exactly where no seat has the number. What each event answers and leaves is `Happens`. To open a
+    /// session and to give one up take no memory.
     pub fn step(&mut self, event: Event) -> HallReply
         requires { IsStageable event }
-        ensures { Happens self.old event result self.new }
+        ensures happens { Happens self.old event result self.new }
+        ensures spared { takes_memory event ≡ false → is_short_of_memory result ≡ false }
     {
         self.happen(&event)
     }

@@ -1,5 +1,5 @@
 //! The seats of a hall.
-ghost use Rattle.std.specs.Prelude.{◌≡◌, ◌<◌, ◌≤◌, ◌∷◌, ◌++◌, [], List, All, IsSome, IfOk, OnOk, OnErr, IfSome, Some, None, length, slice_get, vec_len, not, is_none};
+ghost use Rattle.std.specs.Prelude.{◌≡◌, ◌<◌, ◌≤◌, ◌∷◌, ◌++◌, [], List, All, IsSome, IfOk, OnOk, OnErr, IfSome, Some, None, length, slice_get, vec_len, not, is_none, false};
 ghost use Rattle.std.specs.Vec.{vec_capacity};
 ghost use Rattle.tg_graph.specs.Graphs.{ProtectionGraph};
 ghost use Rattle.tg_graph.specs.GraphOf.{graph_of};
@@ -7,9 +7,9 @@ ghost use Rattle.tg_graph.specs.Limits.{most_cells};
 ghost use Rattle.tg_store.specs.declared.records.Record.{Record};
 ghost use Rattle.tg_store.specs.StepWords.{IsNamedStep};
 ghost use Rattle.tg_store.specs.Answers.{IsAnswer, AreAnswers, after_steps};
-ghost use Rattle.tg_store.specs.Histories.{count_of};
+ghost use Rattle.tg_store.specs.Histories.{count_of, replay};
 ghost use Rattle.tg_store.specs.Touches.{IsClear};
-ghost use Rattle.tg_store.specs.Worlds.{one_further, fresh_seat, Begins, TakesIn, Learns, Stages, Aborts, Joins, Puts};
+ghost use Rattle.tg_store.specs.Worlds.{is_short_of_memory, one_further, fresh_seat, Begins, TakesIn, Learns, Stages, Aborts, Joins, Puts};
 
 use crate::answers::{Answered, Steps};
 use crate::events::{HallFault, HallReply};
@@ -115,6 +115,14 @@ impl SeatState {
         &self.graph
     }
 
+    /// The graph that all records lead to, those that the seat has taken in and those that are left.
+    pub fn replayed(&self, records: &[Record]) -> Result<Graph, AllocError>
+        requires { self.now.taken ≤ length records.now }
+        ensures { IfOk result (λ graph. (g : ProtectionGraph) → Rests g records.now self.now → graph_of graph ≡ replay g records.now) }
+    {
+        replays::replayed(&self.graph, &records[self.taken..])
+    }
+
     /// Whether a session is open.
     pub fn is_open(&self) -> bool
         ensures { not result ≡ is_none (seen_seat self.now).session }
@@ -126,6 +134,7 @@ impl SeatState {
     pub fn begin(&mut self) -> HallReply
         requires { IsConsistent self.old }
         ensures begins { Begins (seen_seat self.old) result (seen_seat self.new) }
+        ensures spared { is_short_of_memory result ≡ false }
         ensures graph { self.new.graph ≡ self.old.graph }
         ensures consistent { IsConsistent self.new }
         ensures commits { self.new.commits ≡ self.old.commits }
@@ -141,6 +150,7 @@ impl SeatState {
     pub fn abort(&mut self) -> HallReply
         requires { IsConsistent self.old }
         ensures aborts { Aborts (seen_seat self.old) result (seen_seat self.new) }
+        ensures spared { is_short_of_memory result ≡ false }
         ensures graph { self.new.graph ≡ self.old.graph }
         ensures consistent { IsConsistent self.new }
         ensures commits { self.new.commits ≡ self.old.commits }
