@@ -40,8 +40,8 @@ fn refused(base: &Graph, draft: &Draft, rule: &Rule) -> Refusal
     }
 }
 
-// Carries out a rule in a session. An error changes nothing.
-fn carry_out(base: &Graph, draft: &mut Draft, rule: &Rule) -> Result<Reply, AllocError>
+/// Carries out a rule in a session. An error changes nothing.
+pub fn carry_out(base: &Graph, draft: &mut Draft, rule: &Rule) -> Result<Reply, AllocError>
     requires fits { Fits base.now draft.old }
     requires named { IsNamed (rights_of rule.now) }
     ensures reply { IfOk result (λ reply. IsAnswer (drafted base.now draft.old) (Step.Do rule.now) reply) }

@@ -21,8 +21,8 @@ use tg_graph::{Draft, Graph, Refusal, Reply, Rule, Step};
 /// An open session: its draft over the graph of its seat, and its steps with their replies.
 #[derive(Drop)]
 pub struct OpenSession {
-    draft: Draft,
-    kept: Vec<Answered>,
+    pub(crate) draft: Draft,
+    pub(crate) kept: Vec<Answered>,
 }
 
 /// A seat: how many records it has taken in, the graph that they lead to, how many sessions it has committed, and its
@@ -50,8 +50,19 @@ fn keep(kept: &mut Vec<Answered>, step: Step, reply: Reply)
 impl OpenSession {
     ghost use Rattle.tg_store.specs.Seats.{IsSessionOn};
 
+    /// A session without steps.
+    pub(crate) fn new(base: &Graph, alloc: Global) -> OpenSession
+        ensures on { IsSessionOn base.now result }
+        ensures kept { result.kept.items ≡ [] }
+    {
+        OpenSession {
+            draft: base.draft(),
+            kept: Vec::new(alloc),
+        }
+    }
+
     // Answers a step, and keeps it with its reply. An error changes no step.
-    fn stage(&mut self, base: &Graph, step: &Step) -> Result<Reply, AllocError>
+    pub(crate) fn stage(&mut self, base: &Graph, step: &Step) -> Result<Reply, AllocError>
         requires on { IsSessionOn base.now self.old }
         requires named { IsNamedStep step.now }
         ensures reply { IfOk result (λ reply. IsAnswer (after_steps (graph_of base.now) self.old.kept.items) step.now reply) }
@@ -131,10 +142,7 @@ impl SeatState {
         if self.session.is_some() {
             return HallReply::Refused(HallFault::AlreadyOpen);
         }
-        self.session = Some(OpenSession {
-            draft: self.graph.draft(),
-            kept: Vec::new(self.alloc),
-        });
+        self.session = Some(OpenSession::new(&self.graph, self.alloc));
         HallReply::Done
     }
 
