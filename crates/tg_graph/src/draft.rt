@@ -244,7 +244,8 @@ impl Draft {
         Ok(())
     }
 
-    /// What the draft stands for, as a graph of its own. It shares each row with the base or the draft.
+    /// What the draft stands for, as a graph of its own. It shares each row with the base or the draft, until the row
+    /// is changed in one of them.
     pub fn whole(&self, base: &Graph) -> Result<Graph, AllocError>
         requires { Fits base.now self.now }
         ensures { IfOk result (λ whole. whole ≡ laid_over base.now self.now) }
@@ -260,7 +261,7 @@ impl Draft {
     }
 }
 
-/// A draft and the graph that it is laid over, in which there is room for all that the draft puts in.
+/// A draft and the graph that it is laid over, in which there is room for the vertices that the draft creates.
 ///
 /// A contract sees the graph, and then the draft.
 #[derive(Drop)]
@@ -331,8 +332,8 @@ impl Graph {
         Draft::new(self.alloc)
     }
 
-    /// Takes the draft's changes in, at the cost of the draft's rows. Where memory is refused, nothing is changed,
-    /// and the draft is given back.
+    /// Takes the draft's changes in, at the cost of the draft's rows and, where its created vertices make the table
+    /// grow, of the table. Where memory is refused, nothing is changed, and the draft is given back.
     pub fn merge(&mut self, draft: Draft) -> Result<(), Draft>
         requires { Fits self.old draft }
         ensures merged { OnOk result (self.new ≡ laid_over self.old draft) }
