@@ -1,5 +1,5 @@
 -- Small texts and what they mean.
-use Rattle.std.specs.Prelude.{◌≡◌, refl, ℕ, List, [], ◌∷◌, ◌++◌, codes, Ok, Err, flat_map}
+use Rattle.std.specs.Prelude.{◌≡◌, refl, [], ◌∷◌, ◌++◌, codes, Ok, Err}
 use Rattle.tg_graph.specs.declared.rules.Rule.TheVariants.{Take}
 use Rattle.tg_graph.specs.declared.session.Act.TheVariants.{Begin}
 use Rattle.tg_text.specs.declared.faults.TextKind.TheVariants.{WordCount, BadRights, DuplicateEdge, BadWord, NoHeader, BadNumber}
