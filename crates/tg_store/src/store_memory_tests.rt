@@ -5,7 +5,7 @@ ghost use Rattle.tg_store.specs.StepWords.{IsNamedStep};
 ghost use Rattle.tg_store.specs.Running.{IsOf, first_seat};
 
 use crate::{Begun, Committed, Seat, Session, Store, StoreFault};
-use std::alloc::{AllocError, Global};
+use std::alloc::Global;
 use std::process::Abort;
 use tg_graph::{Graph, Name, Refusal, Reply, Right, Step};
 
@@ -44,14 +44,29 @@ fn begun(rt: &impl Abort, store: &Store, seat: Seat) -> Session
     }
 }
 
-fn asked(session: &mut Session, step: Step) -> Result<Reply, AllocError>
-    requires { IsNamedStep step }
-    ensures { session.new.seat ≡ session.old.seat }
+// Whether the vertex _0, which is not there, has r over itself.
+fn question() -> Step
+    ensures { IsNamedStep result }
 {
-    match session.step(step) {
-        Ok(reply) => Ok(reply),
-        Err(AllocError) => session.step(step),
+    let x = Name::helper(0);
+    Step::Holds {
+        right: Right::R,
+        x,
+        y: x,
     }
+}
+
+// A session that holds the question.
+fn asked(rt: &impl Abort, store: &Store, seat: Seat) -> Session
+    requires { IsOf store.now seat }
+    ensures { IsOf store.now result.seat }
+{
+    let mut session = begun(rt, store, seat);
+    let unknown = Reply::Refused(Refusal::Unknown(Name::helper(0)));
+    if session.step(question()) != Ok(unknown) {
+        assert!(rt; session.step(question()) == Ok(unknown));
+    }
+    session
 }
 
 // A session that was refused memory goes on, and its record has the place that it would have had.
@@ -75,13 +90,8 @@ fn committed(rt: &impl Abort, store: &Store, session: Session, place: usize) -> 
 #[test]
 fn refused_commits(rt: HostRuntime) {
     let (store, seat) = opened(&rt, rt.alloc());
-    let (right, x) = (Right::R, Name::helper(0));
-    let question = Step::Holds { right, x, y: x };
-    let mut session = begun(&rt, &store, seat);
-    let unknown = Reply::Refused(Refusal::Unknown(x));
-    assert!(rt; asked(&mut session, question) == Ok(unknown));
+    let session = asked(&rt, &store, seat);
     let seat = committed(&rt, &store, session, 0);
     let session = begun(&rt, &store, seat);
-    let seat = committed(&rt, &store, session, 1);
-    assert!(rt; seat.taken() == 2);
+    assert!(rt; committed(&rt, &store, session, 1).taken() == 2);
 }
