@@ -1,5 +1,5 @@
 -- What the calls of a seat keep.
-use Rattle.std.proofs.Common.{◌≡◌, Option, None, IfSome, ◌+◌, ◌≤◌, ◌++◌, List, [], ◌∷◌, length, take, drop, Some, All, sym, ap, subst, ◌∙◌, arith, bytes_eq}
+use Rattle.std.proofs.Common.{◌≡◌, Option, None, IfSome, ◌+◌, ◌++◌, List, [], ◌∷◌, length, take, drop, Some, All, sym, ap, subst, ◌∙◌, arith, bytes_eq}
 use Rattle.std.specs.Prelude.{slice_get}
 use Rattle.std.specs.Option.{option_map}
 use Rattle.std.proofs.lemmas.List.{length-append, take-append-le, take_all, take-append-drop}
