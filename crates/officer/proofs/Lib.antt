@@ -9,3 +9,4 @@ pub mod DealingLemmas
 pub mod OneReport
 pub mod IslandLines
 pub mod OnePlay
+pub mod RunLaws

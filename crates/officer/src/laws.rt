@@ -1,5 +1,6 @@
-//! Laws of the reports. Each function does nothing: its contract is the law.
+//! Laws of the reports and of the program's runs. Each function does nothing: its contract is the law.
 ghost use Rattle.officer.specs.ReportLaws.{CanonicalTextsStay, DerivationsGiveTheRight, IslandsAreLines, RulesStopAtRefusal, ThereIsOneReport};
+ghost use Rattle.officer.specs.RunLaws.{RunsPrintReports};
 
 /// A report of rules shows those up to the first that is refused, and the graph that they lead to.
 pub fn rules_stop_at_refusal()
@@ -25,4 +26,10 @@ pub fn there_is_one_report()
 /// What is printed for the islands of a graph is one line for each, and each vertex stands on one of them, once.
 pub fn islands_are_lines()
     ensures { IslandsAreLines }
+{}
+
+/// A run that ends with a status has printed the report of the call that the words have, for the texts that were there,
+/// and done nothing else; the status is the report's.
+pub fn runs_print_reports()
+    ensures { RunsPrintReports }
 {}
