@@ -9,6 +9,7 @@ use Rattle.tg_text.specs.Words.{Word}
 use Rattle.tg_text.specs.Reading.{◌>>=◌, on_line, after_line, after_lines}
 use Rattle.tg_text.specs.Grammar.{IsLine, AreLines, IsFirstFault}
 use Rattle.tg_text.proofs.Steps.{ok_is, else_ok}
+use Rattle.tg_text.specs.Limits.{most_line_bytes}
 
 pub cases_result : {A E : Type 0} (r : Result A E) → ((x : A) × (r ≡ Ok x)) ⊎ ((e : E) × (r ≡ Err e))
 cases_result (Ok x) = inl (x, refl)
@@ -47,15 +48,15 @@ module _ {A : Type 0} (f : ℕ → A → List Word → Result A TextKind) (R : �
     (back : (n : ℕ) (a : A) (words : List Word) (b : A) → R n a words b → f n a words ≡ Ok b) where
   line_ok : (n : ℕ) (a : A) (line : List ℕ) (b : A) → after_line (f n) a line ≡ Ok b → IsLine (R n) a line b
   line_ok n a line b e =
-      let g = else_ok (ltb 256 (length line)) LineTooLong (cond (is_skipped (words_of line)) (Ok a) (f n a (words_of line))) b e in
+      let g = else_ok (ltb most_line_bytes (length line)) LineTooLong (cond (is_skipped (words_of line)) (Ok a) (f n a (words_of line))) b e in
       record {
-        short = ltb-false 256 (length line) g.0;
+        short = ltb-false most_line_bytes (length line) g.0;
         means = skipped_or_not (is_skipped (words_of line)) (Ok a) (f n a (words_of line)) (Ok b) g.1 (λ same. sym (ok_is a b same)) (λ item. into n a (words_of line) b item);
       }
 
   line_from : (n : ℕ) (a : A) (line : List ℕ) (b : A) → IsLine (R n) a line b → after_line (f n) a line ≡ Ok b
   line_from n a line b h =
-      let short : ltb 256 (length line) ≡ false = le-ltb 256 (length line) h.short in
+      let short : ltb most_line_bytes (length line) ≡ false = le-ltb most_line_bytes (length line) h.short in
       let rest : cond (is_skipped (words_of line)) (Ok a) (f n a (words_of line)) ≡ Ok b = chosen_from (is_skipped (words_of line)) (Ok a) (f n a (words_of line)) (Ok b) h.means (λ same. ap Ok (sym same)) (λ item. back n a (words_of line) b item) in
       ap (λ (t : Bool). cond t (Err LineTooLong) (cond (is_skipped (words_of line)) (Ok a) (f n a (words_of line)))) short ∙ rest
 

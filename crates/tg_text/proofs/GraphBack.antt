@@ -32,13 +32,15 @@ use Rattle.tg_text.specs.RoundTrips.{in_order}
 use Rattle.tg_text.proofs.NameOrder.{Above, Strict, among, among-in_order, first, strict-in_order}
 use Rattle.tg_text.proofs.PlainWords.{IsPlainWord, lines-spaced, line-is, name_at-is, name_word, rights_word, word_from_test}
 use Rattle.tg_text.proofs.RuleBack.{rights_at-is, length-two, length-more}
+use Rattle.tg_graph.specs.Limits.{most_vertices}
+use Rattle.tg_text.specs.Limits.{most_line_bytes}
 
 -- ---- one line
 -- reading the bytes as the lines that follow those that made a gives h
 abbrev Reads : ProtectionGraph → List ℕ → ProtectionGraph → Type 0
 Reads a bytes h = (n : ℕ) → after_lines (λ n. graph_item) n a (lines_of bytes) ≡ Ok h
 
-read-line : (words : List Word) (a b h : ProtectionGraph) (rest : List ℕ) → AllByRecursion IsPlainWord words → length (spaced words) ≤ 256 → is_skipped words ≡ false
+read-line : (words : List Word) (a b h : ProtectionGraph) (rest : List ℕ) → AllByRecursion IsPlainWord words → length (spaced words) ≤ most_line_bytes → is_skipped words ≡ false
     → graph_item a words ≡ Ok b → Reads b rest h → Reads a (line_of words ++ rest) h
 read-line words a b h rest p l s e r n =
     ap (after_lines (λ n. graph_item) n a) (lines-spaced words rest p)
@@ -46,15 +48,15 @@ read-line words a b h rest p l s e r n =
     ∙ r (n + 1)
 
 -- ---- the line of a vertex
-short-vertex : (v : Name) → IsName v → length (spaced (codes "vertex" ∷ v ∷ [])) ≤ 256
+short-vertex : (v : Name) → IsName v → length (spaced (codes "vertex" ∷ v ∷ [])) ≤ most_line_bytes
 short-vertex v n = omega (arith, length-append (codes "vertex") (32 ∷ v), n.within)
 
-vertex-item : (a : ProtectionGraph) (v : Name) → IsName v → has_vertex a v ≡ false → length a.vertices < 1024 → graph_item a (codes "vertex" ∷ v ∷ []) ≡ Ok (with_vertex a v)
+vertex-item : (a : ProtectionGraph) (v : Name) → IsName v → has_vertex a v ≡ false → length a.vertices < most_vertices → graph_item a (codes "vertex" ∷ v ∷ []) ≡ Ok (with_vertex a v)
 unfolding graph_item vertex_item
 vertex-item a v n e l =
-    let room : nat_le 1024 (length a.vertices) ≡ false = grind (arith, nat_tests) in
+    let room : nat_le most_vertices (length a.vertices) ≡ false = grind (arith, nat_tests) in
     ap (λ r. r >>= λ v. with_new_vertex a v) (name_at-is v n)
-    ∙ ap (λ b. if b then Err DuplicateVertex else (if nat_le 1024 (length a.vertices) then Err TooManyVertices else Ok (with_vertex a v))) e
+    ∙ ap (λ b. if b then Err DuplicateVertex else (if nat_le most_vertices (length a.vertices) then Err TooManyVertices else Ok (with_vertex a v))) e
     ∙ ap (λ b. if b then Err TooManyVertices else Ok (with_vertex a v)) room
 
 -- ---- the lines of vertices
@@ -77,13 +79,13 @@ not_among v (u ∷ us) vs s = ap (λ b. b || among v us) (above_last u v us vs s
 shift : (us : List Name) (v : Name) (vs : List Name) → (us ++ v ∷ []) ++ vs ≡ us ++ v ∷ vs
 shift us v vs = append_assoc us (v ∷ []) vs
 
-vertices-read : (us vs : List Name) (rest : List ℕ) (h : ProtectionGraph) → Strict (us ++ vs) → AllByRecursion IsName vs → length (us ++ vs) ≤ 1024
+vertices-read : (us vs : List Name) (rest : List ℕ) (h : ProtectionGraph) → Strict (us ++ vs) → AllByRecursion IsName vs → length (us ++ vs) ≤ most_vertices
     → Reads (bare (us ++ vs)) rest h → Reads (bare us) (flat_map vertex_line vs ++ rest) h
 vertices-read us [] rest h s a l r = subst (λ ws. Reads (bare ws) rest h) (append-nil us) r
 vertices-read us (v ∷ vs) rest h s a l r =
-    let room : length us < 1024 = omega (arith, length-append us (v ∷ vs)) in
+    let room : length us < most_vertices = omega (arith, length-append us (v ∷ vs)) in
     let next : Reads (bare (us ++ v ∷ [])) (flat_map vertex_line vs ++ rest) h = vertices-read (us ++ v ∷ []) vs rest h
-    (subst Strict (sym (shift us v vs)) s) a.1 (subst (λ ws. length ws ≤ 1024) (sym (shift us v vs)) l)
+    (subst Strict (sym (shift us v vs)) s) a.1 (subst (λ ws. length ws ≤ most_vertices) (sym (shift us v vs)) l)
     (subst (λ ws. Reads (bare ws) rest h) (sym (shift us v vs)) r) in
     let words : List Word = codes "vertex" ∷ v ∷ [] in
     subst (λ bs. Reads (bare us) bs h) (sym (append_assoc (vertex_line v) (flat_map vertex_line vs) rest))
@@ -91,7 +93,7 @@ vertices-read us (v ∷ vs) rest h s a l r =
     (vertex-item (bare us) v a.0 (not_among v us vs s) room) next)
 
 -- ---- the line of an edge
-short-edge : (x y : Name) (s : Rights) → IsName x → IsName y → length (spaced (codes "edge" ∷ x ∷ y ∷ rights_text s ∷ [])) ≤ 256
+short-edge : (x y : Name) (s : Rights) → IsName x → IsName y → length (spaced (codes "edge" ∷ x ∷ y ∷ rights_text s ∷ [])) ≤ most_line_bytes
 short-edge x y s p q = omega (arith, length-more (codes "edge") x (y ∷ rights_text s ∷ []), length-two x y s, p.within, q.within)
 
 edge-item : (a : ProtectionGraph) (x y : Name) (s : Rights) → IsName x → IsName y → IsNamed s → is_empty_set s ≡ false → has_vertex a x ≡ true → has_vertex a y ≡ true → is_empty_set (label_between a x y) ≡ true
@@ -215,7 +217,7 @@ module _ (g : ProtectionGraph) (w : WellFormed g) (vs : List Name) (known : (v :
   names_of [] a = tt
   names_of (v ∷ ws) a = (name_of v a.0, names_of ws a.1)
 
-  pub all-read : length vs ≤ 1024 → Reads empty_graph (flat_map vertex_line vs ++ flat_map (row_text g vs) vs) (record { vertices = vs; holds = g.holds })
+  pub all-read : length vs ≤ most_vertices → Reads empty_graph (flat_map vertex_line vs ++ flat_map (row_text g vs) vs) (record { vertices = vs; holds = g.holds })
   all-read l =
       let all = all_among vs (λ v m. m) in
       let last : Reads (after_rows vs) [] (record { vertices = vs; holds = g.holds }) = λ n. ap (λ a. Ok a) whole in
@@ -238,6 +240,6 @@ length-in_order : (vs : List Name) → length (in_name_order vs) ≤ length vs
 length-in_order [] = omega arith
 length-in_order (v ∷ vs) = omega (arith, length-insert (in_name_order vs) v, length-in_order vs)
 
-pub graph-back : (g : ProtectionGraph) → WellFormed g → length g.vertices ≤ 1024 → graph_text (canonical_text g) ≡ Ok (in_order g)
+pub graph-back : (g : ProtectionGraph) → WellFormed g → length g.vertices ≤ most_vertices → graph_text (canonical_text g) ≡ Ok (in_order g)
 unfolding graph_text
 graph-back g w l = all-read g w (in_name_order g.vertices) (λ v. among-in_order v g.vertices) (strict-in_order g.vertices) (omega (arith, length-in_order g.vertices)) 1

@@ -17,6 +17,7 @@ use Rattle.tg_text.specs.GraphText.{empty_graph, edge_rights_at, with_new_vertex
 use Rattle.tg_text.specs.GraphGrammar.{IsVertexLine, IsEdgeLine, IsGraphItem, GraphTextsAreThose, GraphFaultsAreFirst}
 use Rattle.tg_text.proofs.Steps.{ok_is, bind_ok, else_ok, chosen, value_ok, word_is, name_ok, name_from, one_word_is, three_words_are}
 use Rattle.tg_text.proofs.GrammarLaws.{lines_ok, lines_from, lines_fault}
+use Rattle.tg_graph.specs.Limits.{most_vertices}
 
 vertex_ok : (g : ProtectionGraph) (words : List Word) (h : ProtectionGraph) → vertex_item g words ≡ Ok h → IsVertexLine g (codes "vertex" ∷ words) h
 unfolding vertex_item
@@ -24,14 +25,14 @@ vertex_ok g words h e =
     let b = bind_ok (one_word words) (λ w. name_at w >>= λ n. with_new_vertex g n) h e in
     let c = bind_ok (name_at b.0) (λ n. with_new_vertex g n) h b.2 in
     let n = name_ok b.0 c.0 c.1 in
-    let fresh = else_ok (has_vertex g c.0) DuplicateVertex (cond (leb 1024 (length g.vertices)) (Err TooManyVertices) (Ok (with_vertex g c.0))) h c.2 in
-    let room = else_ok (leb 1024 (length g.vertices)) TooManyVertices (Ok (with_vertex g c.0)) h fresh.1 in
+    let fresh = else_ok (has_vertex g c.0) DuplicateVertex (cond (leb most_vertices (length g.vertices)) (Err TooManyVertices) (Ok (with_vertex g c.0))) h c.2 in
+    let room = else_ok (leb most_vertices (length g.vertices)) TooManyVertices (Ok (with_vertex g c.0)) h fresh.1 in
     record {
       name = c.0;
       spelled = ap (λ (ws : List Word). codes "vertex" ∷ ws) (one_word_is words b.0 b.1 ∙ ap (λ (w : Word). w ∷ []) n.0);
       is_name = n.1;
       fresh = fresh.0;
-      room = leb-false 1024 (length g.vertices) room.0;
+      room = leb-false most_vertices (length g.vertices) room.0;
       makes = sym (ok_is (with_vertex g c.0) h room.1);
     }
 
@@ -75,7 +76,7 @@ edge_ok g words h e =
 vertex_from : (g : ProtectionGraph) (words : List Word) (h : ProtectionGraph) → IsVertexLine g words h → graph_item g words ≡ Ok h
 unfolding graph_item vertex_item
 vertex_from g words h v =
-    let full : leb 1024 (length g.vertices) ≡ false = lt-leb 1024 (length g.vertices) v.room in
+    let full : leb most_vertices (length g.vertices) ≡ false = lt-leb most_vertices (length g.vertices) v.room in
     let fresh = v.fresh in
     let added : with_new_vertex g v.name ≡ Ok (with_vertex g v.name) = rw (fresh, full) refl in
     let read : graph_item g (codes "vertex" ∷ v.name ∷ []) ≡ Ok (with_vertex g v.name) = ap (λ (r : Result Name TextKind). r >>= λ n. with_new_vertex g n) (name_from v.name v.is_name) ∙ added in

@@ -20,6 +20,7 @@ use Rattle.tg_text.specs.Words.{Word, name_at}
 use Rattle.tg_text.specs.Spelling.{spaced, or_dash, rights_text}
 use Rattle.tg_text.specs.Canonical.{line_of}
 use Rattle.tg_text.proofs.Letters.{length-letters}
+use Rattle.tg_text.specs.Limits.{most_line_bytes}
 
 -- ---- words without blanks and line feeds
 abbrev is_plain : ℕ → Bool
@@ -145,9 +146,9 @@ name_at-is v n = ap (λ r. if is_ok r then Ok v else Err BadName) (found v n.som
         ∙ ap (λ b. if b then Err TooLong else checked v (first_bad 0 v)) within ∙ ap (checked v) e
 
 -- a line that is not too long and not skipped, by its words
-pub line-is : {A : Type 0} (item : A → List Word → Result A TextKind) (a : A) (words : List Word) → AllByRecursion IsPlainWord words → length (spaced words) ≤ 256 → is_skipped words ≡ false
+pub line-is : {A : Type 0} (item : A → List Word → Result A TextKind) (a : A) (words : List Word) → AllByRecursion IsPlainWord words → length (spaced words) ≤ most_line_bytes → is_skipped words ≡ false
     → after_line item a (spaced words) ≡ item a words
 line-is item a words p l s =
-    let short : nat_lt 256 (length (spaced words)) ≡ false = grind (arith, nat_tests) in
+    let short : nat_lt most_line_bytes (length (spaced words)) ≡ false = grind (arith, nat_tests) in
     ap (λ b. if b then Err LineTooLong else (if is_skipped (words_of (spaced words)) then Ok a else item a (words_of (spaced words)))) short
     ∙ ap (λ ws. if is_skipped ws then Ok a else item a ws) (words-spaced words p) ∙ ap (λ b. if b then Ok a else item a words) s

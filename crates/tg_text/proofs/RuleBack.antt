@@ -18,6 +18,7 @@ use Rattle.tg_text.specs.RuleText.{two_names, three_names, rule_of_words, rule_o
 use Rattle.tg_text.specs.Spelling.{rule_text, rule_words, rights_text, spaced}
 use Rattle.tg_text.proofs.PlainWords.{IsPlainWord, word_from_test, name_word, rights_word, words-spaced, name_at-is, length-rights}
 use Rattle.tg_text.proofs.RightsBack.{rights-back}
+use Rattle.tg_text.specs.Limits.{most_line_bytes}
 
 pub rights_at-is : (s : Rights) → IsNamed s → rights_at (rights_text s) ≡ Ok s
 rights_at-is s n = ap (value_or BadRights) (rights-back s n)
@@ -56,7 +57,7 @@ length-two word x s = omega (arith, length-append word (32 ∷ spaced (x ∷ rig
 pub length-more : (word : Word) (next : Word) (words : List Word) → length (spaced (word ∷ next ∷ words)) ≡ length word + 1 + length (spaced (next ∷ words))
 length-more word next words = omega (arith, length-append word (32 ∷ spaced (next ∷ words)))
 
-pub short-rule : (rule : Rule) → IsRule rule → length (rule_text rule) ≤ 256
+pub short-rule : (rule : Rule) → IsRule rule → length (rule_text rule) ≤ most_line_bytes
 short-rule (Take x y z s) (p, q, r, n) =
     omega (arith, length-more (codes "take") x (y ∷ z ∷ rights_text s ∷ []), length-more x y (z ∷ rights_text s ∷ []), length-two y z s, p.within, q.within, r.within)
 short-rule (Grant x y z s) (p, q, r, n) =
@@ -67,6 +68,6 @@ short-rule (Remove x y s) (p, q, n) = omega (arith, length-more (codes "remove")
 pub rule-back : (rule : Rule) → IsRule rule → rule_of_line (rule_text rule) ≡ Ok rule
 rule-back rule p =
     let short = short-rule rule p in
-    let test : nat_lt 256 (length (rule_text rule)) ≡ false = grind (arith, nat_tests) in
+    let test : nat_lt most_line_bytes (length (rule_text rule)) ≡ false = grind (arith, nat_tests) in
     ap (λ b. if b then Err LineTooLong else rule_of_words (words_of (rule_text rule))) test
     ∙ ap rule_of_words (words-spaced (rule_words rule) (plain-rule rule p)) ∙ words-back rule p

@@ -27,6 +27,8 @@ use Rattle.tg_text.specs.ScriptGrammar.{SpellsQuestion, SpellsAct, SpellsNumber,
 use Rattle.tg_text.proofs.Steps.{ok_is, bind_ok, chosen, value_ok, word_is, name_ok, name_from, one_word_is, three_words_are}
 use Rattle.tg_text.proofs.GrammarLaws.{lines_ok, lines_from, lines_fault, cases_result, same_value, same_number}
 use Rattle.tg_text.proofs.RuleLaws.{rule_ok, rule_from, item_ok, item_from, keyword}
+use Rattle.tg_graph.specs.Limits.{most_cells, most_seats}
+use Rattle.tg_text.specs.Limits.{most_entries}
 
 -- ---- numbers
 
@@ -171,9 +173,9 @@ seated_ok n (Err kind) (Err _) found e = absurd cc
 
 event_ok : (n seats : ℕ) (lines : List ScriptLine) (words : List Word) (more : List ScriptLine) → event_item n seats lines words ≡ Ok more → IsEventLine n seats lines words more
 unfolding event_item event_of_words
-event_ok n seats lines [] more e = absurd (let i = item_ok 65536 lines (event_of_words n seats []) more e in let other : event_of_words n seats [] ≡ Ok i.0 = i.1 in cc)
+event_ok n seats lines [] more e = absurd (let i = item_ok most_entries lines (event_of_words n seats []) more e in let other : event_of_words n seats [] ≡ Ok i.0 = i.1 in cc)
 event_ok n seats lines (word ∷ words) more e =
-    let i = item_ok 65536 lines (seated n (number_up_to seats word) (act_of_words words)) more e in
+    let i = item_ok most_entries lines (seated n (number_up_to seats word) (act_of_words words)) more e in
     let s = seated_ok n (number_up_to seats word) (act_of_words words) i.0 i.1 in
     record {
       word = word;
@@ -193,7 +195,7 @@ event_from n seats lines words more h =
     let read : event_of_words n seats (h.word ∷ h.rest) ≡ Ok (event_at n h.seat h.act) =
     ap (λ (r : Result ℕ TextKind). seated n r (act_of_words h.rest)) (number_from seats h.word h.seat h.number)
     ∙ ap (seated n (Ok h.seat)) (act_from h.rest h.act h.is_act) in
-    item_from 65536 lines (event_of_words n seats words) (event_at n h.seat h.act) more (ap (event_of_words n seats) h.spelled ∙ read) h.room h.makes
+    item_from most_entries lines (event_of_words n seats words) (event_at n h.seat h.act) more (ap (event_of_words n seats) h.spelled ∙ read) h.room h.makes
 
 -- ---- the header
 
@@ -232,19 +234,19 @@ State = Header × List ScriptLine
 item_is : (n : ℕ) (state : State) (words : List Word) (next : State) → script_item n state words ≡ Ok next → IsScriptItem n state words next
 unfolding script_item
 item_is n (Nothing, lines) words next e =
-    let b = bind_ok (header_number (codes "seats") 64 words) (λ seats. Ok (Seats seats, lines)) next e in
-    (b.0, header_ok (codes "seats") 64 words b.0 b.1, sym (ok_is (Seats b.0, lines) next b.2))
+    let b = bind_ok (header_number (codes "seats") most_seats words) (λ seats. Ok (Seats seats, lines)) next e in
+    (b.0, header_ok (codes "seats") most_seats words b.0 b.1, sym (ok_is (Seats b.0, lines) next b.2))
 item_is n (Seats seats, lines) words next e =
-    let b = bind_ok (header_number (codes "cells") 4096 words) (λ cells. Ok (Whole seats cells, lines)) next e in
-    (b.0, header_ok (codes "cells") 4096 words b.0 b.1, sym (ok_is (Whole seats b.0, lines) next b.2))
+    let b = bind_ok (header_number (codes "cells") most_cells words) (λ cells. Ok (Whole seats cells, lines)) next e in
+    (b.0, header_ok (codes "cells") most_cells words b.0 b.1, sym (ok_is (Whole seats b.0, lines) next b.2))
 item_is n (Whole seats cells, lines) words next e =
     let b = bind_ok (event_item n seats lines words) (λ more. Ok (Whole seats cells, more)) next e in
     (b.0, event_ok n seats lines words b.0 b.1, sym (ok_is (Whole seats cells, b.0) next b.2))
 
 item_back : (n : ℕ) (state : State) (words : List Word) (next : State) → IsScriptItem n state words next → script_item n state words ≡ Ok next
 unfolding script_item
-item_back n (Nothing, lines) words next h = ap (λ (r : Result ℕ TextKind). r >>= λ seats. Ok (Seats seats, lines)) (header_from (codes "seats") 64 words h.0 h.1) ∙ ap Ok (sym h.2)
-item_back n (Seats seats, lines) words next h = ap (λ (r : Result ℕ TextKind). r >>= λ cells. Ok (Whole seats cells, lines)) (header_from (codes "cells") 4096 words h.0 h.1) ∙ ap Ok (sym h.2)
+item_back n (Nothing, lines) words next h = ap (λ (r : Result ℕ TextKind). r >>= λ seats. Ok (Seats seats, lines)) (header_from (codes "seats") most_seats words h.0 h.1) ∙ ap Ok (sym h.2)
+item_back n (Seats seats, lines) words next h = ap (λ (r : Result ℕ TextKind). r >>= λ cells. Ok (Whole seats cells, lines)) (header_from (codes "cells") most_cells words h.0 h.1) ∙ ap Ok (sym h.2)
 item_back n (Whole seats cells, lines) words next h = ap (λ (r : Result (List ScriptLine) TextKind). r >>= λ more. Ok (Whole seats cells, more)) (event_from n seats lines words h.0 h.1) ∙ ap Ok (sym h.2)
 
 abbrev start : State

@@ -16,6 +16,7 @@ use Rattle.tg_text.specs.Reading.{◌>>=◌, after_lines}
 use Rattle.tg_text.specs.ScriptText.{ScriptOf, script_item, with_header, script_text, IsCount, IsWithinLimits}
 use Rattle.tg_text.specs.ScriptGrammar.{SpellsNumber, IsScriptItem}
 use Rattle.tg_text.proofs.ScriptLaws.{script_texts_are_those}
+use Rattle.tg_graph.specs.Limits.{most_cells, most_seats}
 
 -- ---- numbers
 if_some : (t : Bool) (o : Option ℕ) (v : ℕ) → cond t o None ≡ Some v → (t ≡ true) × (o ≡ Some v)
@@ -56,16 +57,16 @@ number_is_some (b ∷ bs) v e =
 -- what the lines so far have made is within the limits
 abbrev pub IsWithin : Header × List ScriptLine → Type 0
 IsWithin (Nothing, lines) = lines ≡ []
-IsWithin (Seats seats, lines) = IsCount 64 seats × (lines ≡ [])
-IsWithin (Whole seats cells, lines) = IsCount 64 seats × IsCount 4096 cells × All (λ event. IsCount seats event.seat) lines
+IsWithin (Seats seats, lines) = IsCount most_seats seats × (lines ≡ [])
+IsWithin (Whole seats cells, lines) = IsCount most_seats seats × IsCount most_cells cells × All (λ event. IsCount seats event.seat) lines
 
 count_of_word : (most : ℕ) (word : Word) (v : ℕ) → SpellsNumber most word v → IsCount most v
 count_of_word most word v h = (number_is_some word v h.is_number, h.within)
 
 item_is_within : (n : ℕ) (a b : Header × List ScriptLine) (words : List Word) → IsWithin a → IsScriptItem n a words b → IsWithin b
-item_is_within n (Nothing, lines) b words h item = subst IsWithin (sym item.2) (count_of_word 64 item.1.word item.0 item.1.number, h)
+item_is_within n (Nothing, lines) b words h item = subst IsWithin (sym item.2) (count_of_word most_seats item.1.word item.0 item.1.number, h)
 item_is_within n (Seats seats, lines) b words h item =
-    subst IsWithin (sym item.2) (h.0, count_of_word 4096 item.1.word item.0 item.1.number, subst (All (λ event. IsCount seats event.seat)) (sym h.1) (All-nil (λ event. IsCount seats event.seat)))
+    subst IsWithin (sym item.2) (h.0, count_of_word most_cells item.1.word item.0 item.1.number, subst (All (λ event. IsCount seats event.seat)) (sym h.1) (All-nil (λ event. IsCount seats event.seat)))
 item_is_within n (Whole seats cells, lines) b words h item =
     let event = item.1 in
     let seat = count_of_word seats event.word event.seat event.number in
@@ -88,10 +89,10 @@ script_is_within text script e =
 abbrev read : Header × List ScriptLine → Result (Header × List ScriptLine) (ℕ × TextKind)
 read made = Ok made
 
--- a text that was read to its end, where the whole header stands
-pub read_is_within : (text rest : List ℕ) (n : ℕ) (header : Header) (lines : List ScriptLine) (seats cells : ℕ) → rest ≡ [] → header ≡ Whole seats cells → after_lines script_item n (header, lines) (lines_of rest) ≡ after_lines script_item 1 (Nothing, []) (lines_of text) → IsWithinLimits (record { seats = seats; cells = cells; lines = lines })
+-- a text whose lines made the whole header
+pub read_is_within : (text : List ℕ) (none : List ScriptLine) (header : Header) (lines : List ScriptLine) (seats cells : ℕ) → none ≡ [] → header ≡ Whole seats cells → after_lines script_item 1 (Nothing, none) (lines_of text) ≡ Ok (header, lines) → IsWithinLimits (record { seats = seats; cells = cells; lines = lines })
 unfolding script_text
-read_is_within text rest n header lines seats cells none whole so_far =
-    let ended : read (Whole seats cells, lines) ≡ after_lines script_item 1 (Nothing, []) (lines_of text) =
-    ap (λ (h : Header). read (h, lines)) (sym whole) ∙ (ap (λ (b : List ℕ). after_lines script_item n (header, lines) (lines_of b)) (sym none) ∙ so_far) in
-    script_is_within text (record { seats = seats; cells = cells; lines = lines }) (ap (λ (r : Result (Header × List ScriptLine) (ℕ × TextKind)). r >>= λ script. with_header (length (lines_of text) + 1) script) (sym ended))
+read_is_within text none header lines seats cells empty whole read_so =
+    let ended : after_lines script_item 1 (Nothing, []) (lines_of text) ≡ read (Whole seats cells, lines) =
+    ap (λ (es : List ScriptLine). after_lines script_item 1 (Nothing, es) (lines_of text)) (sym empty) ∙ (read_so ∙ ap (λ (h : Header). read (h, lines)) whole) in
+    script_is_within text (record { seats = seats; cells = cells; lines = lines }) (ap (λ (r : Result (Header × List ScriptLine) (ℕ × TextKind)). r >>= λ script. with_header (length (lines_of text) + 1) script) ended)

@@ -3,10 +3,11 @@ use Rattle.std.specs.Prelude.{◌≡◌, ℕ, ◌+◌, ◌≤◌, List, [], ◌�
 use Rattle.std.specs.Bool.{MatchBool}
 use Rattle.tg_text.specs.Lines.{words_of, is_skipped}
 use Rattle.tg_text.specs.Words.{Word}
+use Rattle.tg_text.specs.Limits.{most_line_bytes}
 
--- A line has at most 256 bytes. It is skipped, and changes nothing; or its words lead from a to b, as item says.
+-- A line is not too long. It is skipped, and changes nothing; or its words lead from a to b, as item says.
 pub record IsLine {A : Type 0} (item : A → List Word → A → Type 0) (a : A) (line : List ℕ) (b : A) : Type 0 where
-  pub short : length line ≤ 256
+  pub short : length line ≤ most_line_bytes
   pub means : MatchBool (is_skipped (words_of line)) (b ≡ a) (item a (words_of line) b)
 
 -- The lines, the first of them with the number n, lead from a to b.

@@ -12,14 +12,15 @@ use Rattle.tg_text.specs.Lines.{lines_of}
 use Rattle.tg_text.specs.Words.{Word}
 use Rattle.tg_text.specs.GraphText.{empty_graph, graph_text}
 use Rattle.tg_text.specs.Grammar.{AreLines, IsFirstFault}
+use Rattle.tg_graph.specs.Limits.{most_vertices}
 
--- `vertex` and a name that no earlier line has, where there are fewer than 1,024 vertices
+-- `vertex` and a name that no earlier line has, where there is room for one more
 pub record IsVertexLine (g : ProtectionGraph) (words : List Word) (h : ProtectionGraph) : Type 0 where
   pub name : Name
   pub spelled : words ≡ codes "vertex" ∷ name ∷ []
   pub is_name : IsName name
   pub fresh : has_vertex g name ≡ false
-  pub room : length g.vertices < 1024
+  pub room : length g.vertices < most_vertices
   pub makes : h ≡ with_vertex g name
 
 -- `edge`, two vertices between which there is no edge yet, and a label that is not empty

@@ -10,6 +10,7 @@ use Rattle.tg_text.specs.declared.faults.TextKind.TheVariants.{BadWord, BadRight
 use Rattle.tg_text.specs.Lines.{lines_of}
 use Rattle.tg_text.specs.Reading.{◌>>=◌, after_line, after_lines}
 use Rattle.tg_text.specs.Words.{Word, is_word, one_word, three_words, name_at, rights_at}
+use Rattle.tg_graph.specs.Limits.{most_vertices}
 
 abbrev pub empty_graph : ProtectionGraph
 empty_graph = record { vertices = []; holds = λ u right v. false }
@@ -24,7 +25,7 @@ edge_rights_at word = do
 abbrev pub with_new_vertex : ProtectionGraph → Name → Result ProtectionGraph TextKind
 with_new_vertex g n =
     if has_vertex g n then Err DuplicateVertex
-    else (if nat_le 1024 (length g.vertices) then Err TooManyVertices
+    else (if nat_le most_vertices (length g.vertices) then Err TooManyVertices
     else Ok (with_vertex g n))
 
 -- the graph with one more edge

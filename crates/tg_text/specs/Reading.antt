@@ -7,6 +7,7 @@ use Rattle.tg_text.specs.declared.faults.TextFault.TheVariants.{At, Memory}
 use Rattle.tg_text.specs.declared.faults.LineFault.{LineFault}
 use Rattle.tg_text.specs.declared.faults.LineFault.TheVariants as line
 use Rattle.tg_text.specs.Lines.{words_of, is_skipped}
+use Rattle.tg_text.specs.Limits.{most_line_bytes}
 
 -- goes on with the value, if there is one
 infixl 10 ◌>>=◌
@@ -21,7 +22,7 @@ on_line n (Err kind) = Err (n, kind)
 
 -- what a line makes of what the earlier lines made: item says it of the words of a line that is not skipped
 abbrev pub after_line : {A : Type 0} → (A → List (List ℕ) → Result A TextKind) → A → List ℕ → Result A TextKind
-after_line item a line = if nat_lt 256 (length line) then Err LineTooLong else (if is_skipped (words_of line) then Ok a else item a (words_of line))
+after_line item a line = if nat_lt most_line_bytes (length line) then Err LineTooLong else (if is_skipped (words_of line) then Ok a else item a (words_of line))
 
 -- each line in turn, the first of them with the number n; item knows the number of its line
 abbrev pub after_lines : {A : Type 0} → (ℕ → A → List (List ℕ) → Result A TextKind) → ℕ → A → List (List ℕ) → Result A (ℕ × TextKind)
@@ -49,10 +50,16 @@ Makes reading (Ok _) made = reading ≡ Ok made
 Makes reading (Err (line.Kind kind)) made = reading ≡ Err kind
 Makes reading (Err line.Memory) made = Unit {0}
 
+-- An outcome of adding so many lines, one by one, to what has become made: the reading of the lines, unless there was no memory.
+abbrev pub MakesAll : {A : Type 0} → Result A (ℕ × TextKind) → ℕ → Result ℕ TextFault → A → Type 0
+MakesAll reading count (Ok n) made = (n ≡ count) × (reading ≡ Ok made)
+MakesAll reading count (Err (At line kind)) made = reading ≡ Err (line, kind)
+MakesAll reading count (Err Memory) made = Unit {0}
+
 abbrev pub fault_on_line : LineFault → ℕ → TextFault
 fault_on_line (line.Kind kind) n = At n kind
 fault_on_line line.Memory n = Memory
 
 -- What stands in a line, seen by view: nothing where it is skipped.
 abbrev pub content_of : List ℕ → Result (Option (List ℕ)) TextKind
-content_of line = if nat_lt 256 (length line) then Err LineTooLong else (if is_skipped (words_of line) then Ok None else Ok (Some line))
+content_of line = if nat_lt most_line_bytes (length line) then Err LineTooLong else (if is_skipped (words_of line) then Ok None else Ok (Some line))

@@ -9,6 +9,8 @@ use Rattle.tg_text.specs.RuleText.{rule_of_line, rules_text}
 use Rattle.tg_text.specs.GraphText.{graph_text}
 use Rattle.tg_text.specs.Spelling.{rule_words, rule_text}
 use Rattle.tg_text.specs.Canonical.{line_of, canonical_text, in_name_order}
+use Rattle.tg_graph.specs.Limits.{most_vertices}
+use Rattle.tg_text.specs.Limits.{most_entries}
 
 -- the line of a rule writes that rule
 abbrev pub RulesAreReadAsWritten : Type 0
@@ -25,7 +27,7 @@ on_lines n (rule ∷ rules) = record { line = n; rule = rule } ∷ on_lines (n +
 
 -- Lines of rules write those rules, if they are no more than a text may have.
 abbrev pub ListsAreReadAsWritten : Type 0
-ListsAreReadAsWritten = (rules : List Rule) → AllByRecursion IsRule rules → length rules ≤ 65536 → rules_text (lines_of_rules rules) ≡ Ok (on_lines 1 rules)
+ListsAreReadAsWritten = (rules : List Rule) → AllByRecursion IsRule rules → length rules ≤ most_entries → rules_text (lines_of_rules rules) ≡ Ok (on_lines 1 rules)
 
 -- the graph with its vertices in name order
 abbrev pub in_order : ProtectionGraph → ProtectionGraph
@@ -33,4 +35,4 @@ in_order g = record { vertices = in_name_order g.vertices; holds = g.holds }
 
 -- The canonical text of a graph writes that graph, if it has no more vertices than a text may name.
 abbrev pub GraphsAreReadAsWritten : Type 0
-GraphsAreReadAsWritten = (g : ProtectionGraph) → WellFormed g → length g.vertices ≤ 1024 → graph_text (canonical_text g) ≡ Ok (in_order g)
+GraphsAreReadAsWritten = (g : ProtectionGraph) → WellFormed g → length g.vertices ≤ most_vertices → graph_text (canonical_text g) ≡ Ok (in_order g)

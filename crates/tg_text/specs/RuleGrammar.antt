@@ -12,6 +12,7 @@ use Rattle.tg_text.specs.Lines.{lines_of, words_of}
 use Rattle.tg_text.specs.Words.{Word}
 use Rattle.tg_text.specs.RuleText.{rule_of_line, rules_text}
 use Rattle.tg_text.specs.Grammar.{AreLines, IsFirstFault}
+use Rattle.tg_text.specs.Limits.{most_entries, most_line_bytes}
 
 -- two names and a set of rights
 pub record SpellsTwoNames (words : List Word) (x y : Name) (s : Rights) : Type 0 where
@@ -43,13 +44,13 @@ SpellsRule words (Grant x y z s) = Spells (codes "grant") (λ rest. SpellsThreeN
 SpellsRule words (Create x n s) = Spells (codes "create") (λ rest. SpellsTwoNames rest x n s) words
 SpellsRule words (Remove x y s) = Spells (codes "remove") (λ rest. SpellsTwoNames rest x y s) words
 
--- a line of at most 256 bytes writes the rule
+-- a line that is not too long writes the rule
 abbrev pub IsRuleLine : List ℕ → Rule → Type 0
-IsRuleLine line rule = (length line ≤ 256) × SpellsRule (words_of line) rule
+IsRuleLine line rule = (length line ≤ most_line_bytes) × SpellsRule (words_of line) rule
 
--- one more rule, where there are fewer than 65,536
+-- one more rule, where there is room for it
 abbrev pub IsRuleItem : ℕ → List RuleLine → List Word → List RuleLine → Type 0
-IsRuleItem n rules words more = (rule : Rule) × SpellsRule words rule × (length rules < 65536) × (more ≡ rules ++ record { line = n; rule = rule } ∷ [])
+IsRuleItem n rules words more = (rule : Rule) × SpellsRule words rule × (length rules < most_entries) × (more ≡ rules ++ record { line = n; rule = rule } ∷ [])
 
 -- the lines write the rules
 abbrev pub IsRulesText : List (List ℕ) → List RuleLine → Type 0

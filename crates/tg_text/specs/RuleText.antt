@@ -12,6 +12,7 @@ use Rattle.tg_text.specs.declared.rule_text.RuleLine.{RuleLine}
 use Rattle.tg_text.specs.Lines.{lines_of, words_of}
 use Rattle.tg_text.specs.Reading.{◌>>=◌, after_lines, with_item}
 use Rattle.tg_text.specs.Words.{Word, is_word, three_words, four_words, name_at, rights_at}
+use Rattle.tg_text.specs.Limits.{most_entries, most_line_bytes}
 
 -- two names and a set of rights
 unfoldable pub two_names : List Word → Result (Name × Name × Rights) TextKind
@@ -44,7 +45,7 @@ rule_of_words (word ∷ words) =
 
 -- The rule that a line writes. A line that a text would skip writes none.
 abbrev pub rule_of_line : List ℕ → Result Rule TextKind
-rule_of_line line = if nat_lt 256 (length line) then Err LineTooLong else rule_of_words (words_of line)
+rule_of_line line = if nat_lt most_line_bytes (length line) then Err LineTooLong else rule_of_words (words_of line)
 
 -- the rule of the line with this number
 unfoldable pub rule_line : ℕ → List Word → Result RuleLine TextKind
@@ -52,7 +53,7 @@ rule_line n words = rule_of_words words >>= λ rule. Ok (record { line = n; rule
 
 -- one more rule, of the line with this number
 unfoldable pub rule_item : ℕ → List RuleLine → List Word → Result (List RuleLine) TextKind
-rule_item n rules words = with_item 65536 rules (rule_line n words)
+rule_item n rules words = with_item most_entries rules (rule_line n words)
 
 -- the rules of a text, or the first faulty line and what is wrong with it
 unfoldable pub rules_text : List ℕ → Result (List RuleLine) (ℕ × TextKind)

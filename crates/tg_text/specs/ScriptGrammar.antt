@@ -15,6 +15,8 @@ use Rattle.tg_text.specs.Words.{Word, number_of, right_of}
 use Rattle.tg_text.specs.ScriptText.{ScriptOf, script_text}
 use Rattle.tg_text.specs.Grammar.{AreLines, IsFirstFault}
 use Rattle.tg_text.specs.RuleGrammar.{Spells, SpellsRule}
+use Rattle.tg_graph.specs.Limits.{most_cells, most_seats}
+use Rattle.tg_text.specs.Limits.{most_entries}
 
 -- a right and two names
 pub record SpellsQuestion (words : List Word) (right : Right) (x y : Name) : Type 0 where
@@ -44,7 +46,7 @@ pub record IsHeaderLine (keyword : Word) (limit : ℕ) (words : List Word) (valu
   pub spelled : words ≡ keyword ∷ word ∷ []
   pub number : SpellsNumber limit word value
 
--- a seat and an act, where there are fewer than 65,536 events
+-- a seat and an act, where there is room for one more event
 pub record IsEventLine (n seats : ℕ) (lines : List ScriptLine) (words : List Word) (more : List ScriptLine) : Type 0 where
   pub word : Word
   pub rest : List Word
@@ -53,13 +55,13 @@ pub record IsEventLine (n seats : ℕ) (lines : List ScriptLine) (words : List W
   pub spelled : words ≡ word ∷ rest
   pub number : SpellsNumber seats word seat
   pub is_act : SpellsAct rest act
-  pub room : length lines < 65536
+  pub room : length lines < most_entries
   pub makes : more ≡ lines ++ record { line = n; seat = seat; act = act } ∷ []
 
 -- first the seats, then the cells, and then the events
 abbrev pub IsScriptItem : ℕ → Header × List ScriptLine → List Word → Header × List ScriptLine → Type 0
-IsScriptItem n (Nothing, lines) words next = (seats : ℕ) × IsHeaderLine (codes "seats") 64 words seats × (next ≡ (Seats seats, lines))
-IsScriptItem n (Seats seats, lines) words next = (cells : ℕ) × IsHeaderLine (codes "cells") 4096 words cells × (next ≡ (Whole seats cells, lines))
+IsScriptItem n (Nothing, lines) words next = (seats : ℕ) × IsHeaderLine (codes "seats") most_seats words seats × (next ≡ (Seats seats, lines))
+IsScriptItem n (Seats seats, lines) words next = (cells : ℕ) × IsHeaderLine (codes "cells") most_cells words cells × (next ≡ (Whole seats cells, lines))
 IsScriptItem n (Whole seats cells, lines) words next = (more : List ScriptLine) × IsEventLine n seats lines words more × (next ≡ (Whole seats cells, more))
 
 -- the lines write the script

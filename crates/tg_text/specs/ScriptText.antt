@@ -17,6 +17,8 @@ use Rattle.tg_text.specs.Lines.{lines_of}
 use Rattle.tg_text.specs.Reading.{◌>>=◌, after_lines, with_item}
 use Rattle.tg_text.specs.Words.{Word, is_word, no_words, one_word, three_words, name_at, right_at, number_up_to}
 use Rattle.tg_text.specs.RuleText.{rule_of_words}
+use Rattle.tg_graph.specs.Limits.{most_cells, most_seats}
+use Rattle.tg_text.specs.Limits.{most_entries}
 
 -- a script without where it lies in memory
 pub record ScriptOf : Type 0 where
@@ -68,7 +70,7 @@ event_of_words n seats (word ∷ words) = seated n (number_up_to seats word) (ac
 
 -- one more event, of the line with this number
 unfoldable pub event_item : ℕ → ℕ → List ScriptLine → List Word → Result (List ScriptLine) TextKind
-event_item n seats lines words = with_item 65536 lines (event_of_words n seats words)
+event_item n seats lines words = with_item most_entries lines (event_of_words n seats words)
 
 -- the number in a header line, which begins with the keyword
 unfoldable pub header_number : Word → ℕ → List Word → Result ℕ TextKind
@@ -78,8 +80,8 @@ header_number keyword limit (word ∷ words) =
 
 -- what a line adds to the header and the events that the earlier lines made
 unfoldable pub script_item : ℕ → Header × List ScriptLine → List Word → Result (Header × List ScriptLine) TextKind
-script_item n (Nothing, lines) words = header_number (codes "seats") 64 words >>= λ seats. Ok (Seats seats, lines)
-script_item n (Seats seats, lines) words = header_number (codes "cells") 4096 words >>= λ cells. Ok (Whole seats cells, lines)
+script_item n (Nothing, lines) words = header_number (codes "seats") most_seats words >>= λ seats. Ok (Seats seats, lines)
+script_item n (Seats seats, lines) words = header_number (codes "cells") most_cells words >>= λ cells. Ok (Whole seats cells, lines)
 script_item n (Whole seats cells, lines) words = event_item n seats lines words >>= λ more. Ok (Whole seats cells, more)
 
 -- a script has its whole header; where it has not, the fault is on the line after the last
@@ -108,8 +110,8 @@ AreNamedEvents lines = All (λ line. IsNamedAct line.act) lines
 abbrev pub IsCount : ℕ → ℕ → Type 0
 IsCount limit n = (0 < n) × (n ≤ limit)
 
--- there are 1 to 64 seats and 1 to 4,096 cells, and each event is of one of the seats
+-- the header keeps its limits, and each event is of one of the seats
 pub record IsWithinLimits (script : ScriptOf) : Type 0 where
-  pub seats : IsCount 64 script.seats
-  pub cells : IsCount 4096 script.cells
+  pub seats : IsCount most_seats script.seats
+  pub cells : IsCount most_cells script.cells
   pub events : All (λ event. IsCount script.seats event.seat) script.lines

@@ -4,7 +4,7 @@ use std::alloc::AllocFailed;
 /// What is wrong with a line, in the order in which it is looked for.
 #[derive(Clone, Copy, PartialEq, Eq, Debug)]
 pub enum TextKind {
-    /// The line has over 256 bytes.
+    /// The line has over `MOST_LINE_BYTES` bytes.
     LineTooLong,
     /// The word that says what the line is, is missing or none of those allowed there.
     BadWord,
@@ -18,13 +18,13 @@ pub enum TextKind {
     BadRights,
     /// The vertex was named by an earlier line.
     DuplicateVertex,
-    /// 1,024 vertices are there already.
+    /// `MOST_VERTICES` vertices are there already.
     TooManyVertices,
     /// A source or target is named by no earlier line.
     UnknownVertex,
     /// An earlier line has the same source and target.
     DuplicateEdge,
-    /// 65,536 rules or events are there already.
+    /// `MOST_ENTRIES` rules or events are there already.
     TooMany,
     /// The text ends before both header lines.
     NoHeader,

@@ -1,24 +1,23 @@
 //! The text of a graph.
-ghost use Rattle.std.specs.Prelude.{◌≡◌, ◌<◌, false};
+ghost use Rattle.std.specs.Prelude.{⊤, ◌≡◌, ◌<◌, false};
 ghost use Rattle.tg_graph.specs.Sets.{IsNamed, is_empty_set};
 ghost use Rattle.tg_graph.specs.GraphOf.{graph_of};
+ghost use Rattle.tg_graph.specs.Graphs.{ProtectionGraph};
 ghost use Rattle.tg_text.specs.Lines.{words_of};
 ghost use Rattle.tg_text.specs.Reading.{Makes, Reads};
-ghost use Rattle.tg_text.specs.GraphText.{vertex_item, edge_item, graph_item, graph_line, graph_text, with_new_vertex, with_new_edge};
+ghost use Rattle.tg_text.specs.GraphText.{vertex_item, edge_item, graph_item, graph_text, with_new_vertex, with_new_edge};
 
 use crate::faults::{LineFault, TextFault, TextKind};
-use crate::lines::{content, cut_line, cut_word};
+use crate::lines::cut_word;
+use crate::reading::{Items, read_lines};
 use crate::words::{edge_rights_at, name_at, one_word, three_words};
 use std::alloc::Global;
-use tg_graph::{EdgeFault, Graph, Name, Rights, VertexFault};
-
-// The most vertices of a text.
-const MAX_VERTICES: usize = 1024;
+use tg_graph::{EdgeFault, Graph, MOST_VERTICES, Name, Rights, VertexFault};
 
 fn add_vertex(graph: &mut Graph, name: Name) -> Result<(), LineFault>
     ensures { Makes (with_new_vertex (graph_of graph.old) name) result (graph_of graph.new) }
 {
-    if graph.len() >= MAX_VERTICES && !graph.knows(name) {
+    if graph.len() >= MOST_VERTICES && !graph.knows(name) {
         return Err(LineFault::Kind(TextKind::TooManyVertices));
     }
     match graph.add_vertex(name) {
@@ -77,14 +76,18 @@ fn add_item(graph: &mut Graph, words: &[u8]) -> Result<(), LineFault>
     Ok(())
 }
 
-fn add_line(graph: &mut Graph, bytes: &[u8]) -> Result<(), LineFault>
-    ensures { Makes (graph_line (graph_of graph.old) bytes.now) result (graph_of graph.new) }
-{
-    let Some(words) = content(bytes)? else {
-        return Ok(());
-    };
-    add_item(graph, words)?;
-    Ok(())
+impl Items for Graph {
+    ghost Made = { ProtectionGraph };
+
+    ghost made = { graph_of };
+
+    ghost item = { λ _. graph_item };
+
+    ghost IsSound = { λ _. ⊤ };
+
+    fn add(&mut self, _line: usize, words: &[u8]) -> Result<(), LineFault> {
+        add_item(self, words)
+    }
 }
 
 #[tactic(auto, unfolding(crate::specs::GraphText::graph_text))]
@@ -97,15 +100,6 @@ pub fn read_graph(alloc: Global, text: &[u8]) -> Result<Graph, TextFault>
     ensures { Reads graph_of result (graph_text text.now) }
 {
     let mut graph = Graph::new(alloc);
-    let mut rest = text;
-    let mut line = 0;
-    while !rest.is_empty() {
-        let (bytes, after) = cut_line(rest);
-        line += 1;
-        if let Err(fault) = add_line(&mut graph, bytes) {
-            return Err(fault.on_line(line));
-        }
-        rest = after;
-    }
+    read_lines(&mut graph, text)?;
     Ok(graph)
 }

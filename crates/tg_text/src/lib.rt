@@ -1,17 +1,18 @@
 //! The texts of graphs, rules, scripts and replies.
 #![tactic(auto)]
 
-pub mod canonical;
-pub mod faults;
-pub mod grammars;
-pub mod graph_text;
+mod canonical;
+mod faults;
+mod graph_text;
 pub mod laws;
-pub mod lines;
+mod limits;
+mod lines;
 #[cfg(test)]
 mod memory_tests;
-pub mod rule_text;
-pub mod script_text;
-pub mod spelling;
+mod reading;
+mod rule_text;
+mod script_text;
+mod spelling;
 #[cfg(test)]
 mod tests;
 mod words;
@@ -21,7 +22,11 @@ mod writing_tests;
 pub use canonical::{names_in_order, write_graph};
 pub use faults::{TextFault, TextKind};
 pub use graph_text::read_graph;
-pub use lines::{MAX_LINE, cut_line, cut_word};
+pub use limits::{MOST_ENTRIES, MOST_LINE_BYTES};
+pub use lines::{cut_line, cut_word};
 pub use rule_text::{RuleLine, read_rule, read_rules};
 pub use script_text::{Script, ScriptLine, read_script};
-pub use spelling::{append_number, append_reply, append_rule, write_reply, write_rule};
+pub use spelling::{
+    LONGEST_NUMBER, LONGEST_REPLY, LONGEST_RULE, append_number, append_reply, append_rule,
+    write_reply, write_rule,
+};

@@ -5,9 +5,7 @@ ghost use Rattle.tg_text.specs.Reading.{Sees, content_of};
 ghost use Rattle.std.specs.Option.{option_copied};
 
 use crate::faults::TextKind;
-
-/// The most bytes of a line, its line feed not counted.
-pub const MAX_LINE: usize = 256;
+use crate::limits::MOST_LINE_BYTES;
 
 /// The first line of a text without its line feed, and what stands behind it.
 ///
@@ -91,7 +89,7 @@ fn begins_with_hash(word: &[u8]) -> bool
 pub(crate) fn content(line: &[u8]) -> Result<Option<&[u8]>, TextKind>
     ensures { Sees option_copied result (content_of line.now) }
 {
-    if line.len() > MAX_LINE {
+    if line.len() > MOST_LINE_BYTES {
         return Err(TextKind::LineTooLong);
     }
     match cut_word(line) {

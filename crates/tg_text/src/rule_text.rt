@@ -1,19 +1,19 @@
 //! The text of rules.
-ghost use Rattle.std.specs.Prelude.{◌≡◌, IfOk, OnOk};
+ghost use Rattle.std.specs.Prelude.{◌≡◌, List, IfOk, OnOk};
 ghost use Rattle.tg_graph.specs.Sets.{IsNamed};
 ghost use Rattle.tg_graph.specs.Rules.{rights_of};
+ghost use Rattle.tg_text.specs.declared.rule_text.RuleLine.{RuleLine};
 ghost use Rattle.tg_text.specs.Lines.{words_of};
-ghost use Rattle.tg_text.specs.Reading.{Makes, Reads, after_line};
+ghost use Rattle.tg_text.specs.Reading.{Makes, Reads};
 ghost use Rattle.tg_text.specs.RuleText.{two_names, three_names, rule_of_words, rule_of_line, rule_item, rules_text, AreNamedLines};
 
 use crate::faults::{LineFault, TextFault, TextKind};
-use crate::lines::{MAX_LINE, content, cut_line, cut_word};
+use crate::limits::{MOST_ENTRIES, MOST_LINE_BYTES};
+use crate::lines::cut_word;
+use crate::reading::{Items, read_lines};
 use crate::words::{four_words, name_at, rights_at, three_words};
 use std::alloc::Global;
 use tg_graph::{Name, Rights, Rule};
-
-// The most rules of a text.
-const MAX_RULES: usize = 65536;
 
 /// A rule of a text.
 #[derive(Clone, Copy, PartialEq, Eq, Debug)]
@@ -78,7 +78,7 @@ pub(crate) fn rule_of_words(bytes: &[u8]) -> Result<Rule, TextKind>
 }
 
 /// The rule that a line without its line feed writes, or the first thing wrong with the line:
-/// `LineTooLong` over 256 bytes, `BadWord` where the first word names no rule, `WordCount`, `BadName`,
+/// `LineTooLong` over `MOST_LINE_BYTES` bytes, `BadWord` where the first word names no rule, `WordCount`, `BadName`,
 /// `BadRights`.
 ///
 /// A line that a text would skip is a `BadWord`. No memory is taken.
@@ -86,7 +86,7 @@ pub fn read_rule(line: &[u8]) -> Result<Rule, TextKind>
     ensures value { result ≡ rule_of_line line.now }
     ensures named { IfOk result (λ rule. IsNamed (rights_of rule)) }
 {
-    if line.len() > MAX_LINE {
+    if line.len() > MOST_LINE_BYTES {
         return Err(TextKind::LineTooLong);
     }
     rule_of_words(line)
@@ -100,44 +100,37 @@ fn add_rule(rules: &mut Vec<RuleLine>, line: usize, words: &[u8]) -> Result<(), 
     ensures named { OnOk result (AreNamedLines rules.new.items) }
 {
     let rule = rule_of_words(words)?;
-    if rules.len() >= MAX_RULES {
+    if rules.len() >= MOST_ENTRIES {
         return Err(LineFault::Kind(TextKind::TooMany));
     }
     rules.push(RuleLine { line, rule })?;
     Ok(())
 }
 
-fn add_line(rules: &mut Vec<RuleLine>, line: usize, bytes: &[u8]) -> Result<(), LineFault>
-    requires { AreNamedLines rules.old.items }
-    ensures made { Makes (after_line (rule_item line) rules.old.items bytes.now) result rules.new.items }
-    ensures named { OnOk result (AreNamedLines rules.new.items) }
-{
-    let Some(words) = content(bytes)? else {
-        return Ok(());
-    };
-    add_rule(rules, line, words)?;
-    Ok(())
+impl Items for Vec<RuleLine> {
+    ghost Made = { List RuleLine };
+
+    ghost made = { λ rules. rules.items };
+
+    ghost item = { rule_item };
+
+    ghost IsSound = { λ rules. AreNamedLines rules.items };
+
+    fn add(&mut self, line: usize, words: &[u8]) -> Result<(), LineFault> {
+        add_rule(self, line, words)
+    }
 }
 
 #[tactic(auto, unfolding(crate::specs::RuleText::rules_text))]
 /// The rules of a text, with their lines.
 ///
 /// `At` names the first faulty line. Its kind is one of those of `read_rule`, or `TooMany` where there
-/// are 65,536 rules already. `Memory` is answered where a growth was refused, whatever stands further on.
+/// are `MOST_ENTRIES` rules already. `Memory` is answered where a growth was refused, whatever stands further on.
 pub fn read_rules(alloc: Global, text: &[u8]) -> Result<Vec<RuleLine>, TextFault>
     ensures value { Reads (λ rules. rules.items) result (rules_text text.now) }
     ensures named { IfOk result (λ rules. AreNamedLines rules.items) }
 {
     let mut rules = Vec::new(alloc);
-    let mut rest = text;
-    let mut line = 0;
-    while !rest.is_empty() {
-        let (bytes, after) = cut_line(rest);
-        line += 1;
-        if let Err(fault) = add_line(&mut rules, line, bytes) {
-            return Err(fault.on_line(line));
-        }
-        rest = after;
-    }
+    read_lines(&mut rules, text)?;
     Ok(rules)
 }

@@ -1,22 +1,20 @@
 //! The text of a script.
-ghost use Rattle.std.specs.Prelude.{◌≡◌, Ok, IfOk, OnOk};
+ghost use Rattle.std.specs.Prelude.{◌≡◌, List, Ok, IfOk, OnOk};
+ghost use Rattle.tg_text.specs.declared.script_text.Header.{Header};
+ghost use Rattle.tg_text.specs.declared.script_text.ScriptLine.{ScriptLine};
+ghost use Rattle.tg_text.specs.Limits.{most_entries};
 ghost use Rattle.tg_text.specs.Lines.{words_of};
-ghost use Rattle.tg_text.specs.Reading.{Makes, Reads, after_line, with_item};
+ghost use Rattle.tg_text.specs.Reading.{Makes, Reads, with_item};
 ghost use Rattle.tg_text.specs.ScriptText.{right_and_names, act_alone, act_of_words, seated, event_of_words, event_item, header_number, script_item, script_text, script_of, IsNamedAct, AreNamedEvents, IsWithinLimits};
 
 use crate::faults::{LineFault, TextFault, TextKind};
-use crate::lines::{content, cut_line, cut_word};
+use crate::limits::MOST_ENTRIES;
+use crate::lines::cut_word;
+use crate::reading::{Items, read_lines};
 use crate::rule_text::rule_of_words;
 use crate::words::{name_at, no_words, number_up_to, one_word, right_at, three_words};
 use std::alloc::Global;
-use tg_graph::{Act, Name, Right, Step};
-
-// The most events of a text, and the greatest numbers of its header.
-const MAX_EVENTS: usize = 65536;
-
-const MAX_SEATS: u32 = 64;
-
-const MAX_CELLS: u32 = 4096;
+use tg_graph::{Act, MOST_CELLS, MOST_SEATS, Name, Right, Step};
 
 /// An event of a script: an act of a seat.
 #[derive(Clone, Copy, PartialEq, Eq, Debug)]
@@ -32,9 +30,9 @@ pub struct ScriptLine {
 /// A script: its header, and the events in turn.
 #[derive(Debug, Drop)]
 pub struct Script {
-    /// How many seats there are, 1 to 64.
+    /// How many seats there are, 1 to `MOST_SEATS`.
     pub seats: u32,
-    /// How many cells there are, 1 to 4,096.
+    /// How many cells there are, 1 to `MOST_CELLS`.
     pub cells: usize,
     /// The events.
     pub lines: Vec<ScriptLine>,
@@ -136,10 +134,10 @@ fn push_event(
 ) -> Result<(), LineFault>
     requires named { IsNamedAct act }
     requires all_named { AreNamedEvents lines.old.items }
-    ensures made { Makes (with_item MAX_EVENTS lines.old.items (Ok (record { line = line; seat = seat; act = act }))) result lines.new.items }
+    ensures made { Makes (with_item most_entries lines.old.items (Ok (record { line = line; seat = seat; act = act }))) result lines.new.items }
     ensures named { OnOk result (AreNamedEvents lines.new.items) }
 {
-    if lines.len() >= MAX_EVENTS {
+    if lines.len() >= MOST_ENTRIES {
         return Err(LineFault::Kind(TextKind::TooMany));
     }
     // Without a step at hand the check does not learn what an event holds.
@@ -190,51 +188,43 @@ fn header_number(keyword: &[u8], limit: u32, bytes: &[u8]) -> Result<u32, TextKi
     }
 }
 
-// Adds what the words of a line that is not skipped say.
-#[tactic(auto, unfolding(crate::specs::ScriptText::script_item))]
-fn add_item(
-    header: &mut Header,
-    lines: &mut Vec<ScriptLine>,
-    line: usize,
-    words: &[u8],
-) -> Result<(), LineFault>
-    requires { AreNamedEvents lines.old.items }
-    ensures made { Makes (script_item line (header.old, lines.old.items) (words_of words.now)) result (header.new, lines.new.items) }
-    ensures named { OnOk result (AreNamedEvents lines.new.items) }
-{
-    match *header {
-        Header::Nothing => *header = Header::Seats(header_number(b"seats", MAX_SEATS, words)?),
-        Header::Seats(seats) => {
-            let cells = header_number(b"cells", MAX_CELLS, words)?;
-            *header = Header::Whole { seats, cells };
-        },
-        Header::Whole { seats, .. } => add_event(lines, seats, line, words)?,
-    }
-    Ok(())
+// What the lines of a script make: the header as far as it has come, and the events.
+#[derive(Drop)]
+pub(crate) struct ScriptItems {
+    header: Header,
+    lines: Vec<ScriptLine>,
 }
 
-fn add_line(
-    header: &mut Header,
-    lines: &mut Vec<ScriptLine>,
-    line: usize,
-    bytes: &[u8],
-) -> Result<(), LineFault>
-    requires { AreNamedEvents lines.old.items }
-    ensures made { Makes (after_line (script_item line) (header.old, lines.old.items) bytes.now) result (header.new, lines.new.items) }
-    ensures named { OnOk result (AreNamedEvents lines.new.items) }
-{
-    let Some(words) = content(bytes)? else {
-        return Ok(());
-    };
-    add_item(header, lines, line, words)?;
-    Ok(())
+impl Items for ScriptItems {
+    ghost Made = { Header × List ScriptLine };
+
+    ghost made = { λ script. (script.header, script.lines.items) };
+
+    ghost item = { script_item };
+
+    ghost IsSound = { λ script. AreNamedEvents script.lines.items };
+
+    #[tactic(auto, unfolding(crate::specs::ScriptText::script_item))]
+    fn add(&mut self, line: usize, words: &[u8]) -> Result<(), LineFault> {
+        match self.header {
+            Header::Nothing => {
+                self.header = Header::Seats(header_number(b"seats", MOST_SEATS, words)?);
+            },
+            Header::Seats(seats) => {
+                let cells = header_number(b"cells", MOST_CELLS as u32, words)?;
+                self.header = Header::Whole { seats, cells };
+            },
+            Header::Whole { seats, .. } => add_event(&mut self.lines, seats, line, words)?,
+        }
+        Ok(())
+    }
 }
 
 #[tactic(auto, unfolding(crate::specs::ScriptText::script_text))]
 /// The script of a text.
 ///
 /// `At` names the first faulty line, and the first of these that it has: `LineTooLong`, `BadWord`,
-/// `WordCount`, `BadNumber`, `BadName`, `BadRights`, `TooMany` where there are 65,536 events already.
+/// `WordCount`, `BadNumber`, `BadName`, `BadRights`, `TooMany` where there are `MOST_ENTRIES` events already.
 /// Where the text ends before both header lines it is `NoHeader`, on the line behind the last.
 /// `Memory` is answered where a growth was refused, whatever stands further on.
 pub fn read_script(alloc: Global, text: &[u8]) -> Result<Script, TextFault>
@@ -242,27 +232,20 @@ pub fn read_script(alloc: Global, text: &[u8]) -> Result<Script, TextFault>
     ensures named { IfOk result (λ script. AreNamedEvents script.lines.items) }
     ensures within { IfOk result (λ script. IsWithinLimits (script_of script)) }
 {
-    let mut header = Header::Nothing;
-    let mut lines = Vec::new(alloc);
-    let mut rest = text;
-    let mut line = 0;
-    while !rest.is_empty() {
-        let (bytes, after) = cut_line(rest);
-        line += 1;
-        if let Err(fault) = add_line(&mut header, &mut lines, line, bytes) {
-            return Err(fault.on_line(line));
-        }
-        rest = after;
-    }
-    let Header::Whole { seats, cells } = header else {
+    let mut script = ScriptItems {
+        header: Header::Nothing,
+        lines: Vec::new(alloc),
+    };
+    let count = read_lines(&mut script, text)?;
+    let Header::Whole { seats, cells } = script.header else {
         return Err(TextFault::At {
-            line: line + 1,
+            line: count + 1,
             kind: TextKind::NoHeader,
         });
     };
     Ok(Script {
         seats,
         cells: cells as usize,
-        lines,
+        lines: script.lines,
     })
 }

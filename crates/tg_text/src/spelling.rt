@@ -23,6 +23,7 @@ pub(crate) fn put(text: &mut Vec<u8>, bytes: &[u8])
     ensures len { vec_len text.new ≡ vec_len text.old + length bytes.now }
     ensures capacity { vec_capacity text.old ≤ vec_capacity text.new }
 {
+    // There is room, so no memory is asked for.
     let _ = text.extend_from_slice(bytes);
 }
 

@@ -5,7 +5,7 @@ use crate::rule_text::{read_rule, read_rules};
 use crate::script_text::read_script;
 use std::alloc::{AllocError, Global};
 use std::test::Fail;
-use tg_graph::{Act, Name, Rights, Rule};
+use tg_graph::{Act, Name, NameFault, Right, Rights, Rule};
 
 #[test]
 fn a_line_and_its_words(rt: HostRuntime) {
@@ -76,26 +76,19 @@ fn script_faults(rt: HostRuntime) {
     }
 }
 
-pub(crate) fn name(bytes: &[u8]) -> Name {
-    match Name::parse(bytes) {
-        Ok(name) => name,
-        Err(_) => Name::helper(0),
-    }
-}
-
-fn take(letters: &[u8]) -> Option<Rule> {
-    let rights = Rights::from_letters(letters)?;
-    Some(Rule::Take {
-        x: name(b"a"),
-        y: name(b"b"),
-        z: name(b"c"),
+fn take(rights: Rights) -> Result<Rule, NameFault> {
+    Ok(Rule::Take {
+        x: Name::parse(b"a")?,
+        y: Name::parse(b"b")?,
+        z: Name::parse(b"c")?,
         rights,
     })
 }
 
 #[test]
-fn rules(rt: HostRuntime) {
-    assert!(rt; read_rule(b"take a b c wr\r").ok() == take(b"rw"));
+fn rules(rt: HostRuntime) -> Result<(), Fail> {
+    let rw = Rights::of(Right::R).union(Rights::of(Right::W));
+    assert!(rt; read_rule(b"take a b c wr\r")? == take(rw)?);
     assert!(rt; read_rule(b"# x") == Err(TextKind::BadWord));
     assert!(rt; read_rule(b"") == Err(TextKind::BadWord));
     assert!(rt; read_rule(b"create a 9 -") == Err(TextKind::BadName));
@@ -104,8 +97,9 @@ fn rules(rt: HostRuntime) {
     if let Ok(rules) = rules {
         assert!(rt; rules.len() == 1);
         assert!(rt; rules[0].line == 3);
-        assert!(rt; Some(rules[0].rule) == take(b"r"));
+        assert!(rt; rules[0].rule == take(Rights::of(Right::R))?);
     }
+    Ok(())
 }
 
 #[test]

@@ -9,7 +9,7 @@ ghost use Rattle.tg_text.specs.Reading.{Sees};
 use crate::faults::TextKind;
 use crate::lines::cut_word;
 use bitflags::Flags;
-use tg_graph::{Name, Right, Rights};
+use tg_graph::{Name, NameFault, Right, Rights};
 
 // The first word, and what stands behind it.
 fn first_word(bytes: &[u8]) -> Result<(&[u8], &[u8]), TextKind>
@@ -62,7 +62,9 @@ pub(crate) fn name_at(word: &[u8]) -> Result<Name, TextKind>
 {
     match Name::parse(word) {
         Ok(name) => Ok(name),
-        Err(_) => Err(TextKind::BadName),
+        Err(NameFault::Empty | NameFault::TooLong | NameFault::BadByte(_)) => Err(
+            TextKind::BadName,
+        ),
     }
 }
 

@@ -1,11 +1,10 @@
-use crate::tests::name;
 use crate::{
     append_number, names_in_order, read_graph, read_rule, write_graph, write_reply, write_rule,
 };
 use std::alloc::{AllocError, Global};
 use std::process::Abort;
 use std::test::Fail;
-use tg_graph::{Refusal, Reply, Right, Rights};
+use tg_graph::{Name, Refusal, Reply, Right, Rights};
 
 fn replies(rt: &impl Abort, alloc: Global, reply: Reply, text: &[u8]) -> Result<(), AllocError> {
     let written = write_reply(alloc, &reply)?;
@@ -36,13 +35,13 @@ fn refusals_with_a_name_or_rights(rt: HostRuntime) -> Result<(), Fail> {
     refuses(
         &rt,
         rt.alloc(),
-        Refusal::Unknown(name(b"n")),
+        Refusal::Unknown(Name::parse(b"n")?),
         b"refused unknown n",
     )?;
     refuses(
         &rt,
         rt.alloc(),
-        Refusal::Taken(name(b"n")),
+        Refusal::Taken(Name::parse(b"n")?),
         b"refused taken n",
     )?;
     refuses(
@@ -83,7 +82,12 @@ fn a_canonical_text(rt: HostRuntime) -> Result<(), Fail> {
 fn names_digits_first(rt: HostRuntime) -> Result<(), Fail> {
     let graph = read_graph(rt.alloc(), b"vertex ab\nvertex a9\nvertex a_\nvertex a\n")?;
     let names = names_in_order(rt.alloc(), &graph)?;
-    let rising = [name(b"a"), name(b"a9"), name(b"a_"), name(b"ab")];
+    let rising = [
+        Name::parse(b"a")?,
+        Name::parse(b"a9")?,
+        Name::parse(b"a_")?,
+        Name::parse(b"ab")?,
+    ];
     assert!(rt; names.as_slice() == rising.as_slice());
     Ok(())
 }

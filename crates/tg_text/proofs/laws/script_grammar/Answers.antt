@@ -1,5 +1,5 @@
 use Rattle.tg_text.proofs.ScriptLaws.{script_texts_are_those, script_faults_are_first}
-use Rattle.tg_text.proofs.grammars.script_grammar.Goals as goal
+use Rattle.tg_text.proofs.laws.script_grammar.Goals as goal
 
 pub returns-clause-texts : goal.returns-clause-texts
 returns-clause-texts c = script_texts_are_those

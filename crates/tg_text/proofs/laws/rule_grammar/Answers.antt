@@ -1,5 +1,5 @@
 use Rattle.tg_text.proofs.RuleLaws.{rule_lines_are_those, rules_texts_are_those, rule_faults_are_first}
-use Rattle.tg_text.proofs.grammars.rule_grammar.Goals as goal
+use Rattle.tg_text.proofs.laws.rule_grammar.Goals as goal
 
 pub returns-clause-lines : goal.returns-clause-lines
 returns-clause-lines c = rule_lines_are_those

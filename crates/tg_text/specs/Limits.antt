@@ -1,0 +1,10 @@
+-- The limits of texts.
+use Rattle.std.specs.Prelude.{ℕ}
+
+-- how many bytes a line may have, its line feed not counted
+abbrev pub most_line_bytes : ℕ
+most_line_bytes = 256
+
+-- how many rules or events a text may have
+abbrev pub most_entries : ℕ
+most_entries = 65536

@@ -1,0 +1,61 @@
+//! Reading a text line by line, up to the first fault.
+ghost use Rattle.std.specs.Prelude.{◌≡◌, ◌≤◌, ℕ, List, Result, IfOk, OnOk, length};
+ghost use Rattle.tg_text.specs.declared.faults.TextKind.{TextKind};
+ghost use Rattle.tg_text.specs.Lines.{lines_of, words_of};
+ghost use Rattle.tg_text.specs.Reading.{Makes, MakesAll, after_line, after_lines};
+
+use crate::faults::{LineFault, TextFault};
+use crate::lines::{content, cut_line};
+
+/// What the lines of a text make, each adding to what the earlier ones made.
+pub(crate) trait Items {
+    // What was made, as the definitions have it.
+    ghost Made: { Type 0 };
+
+    ghost made: { Self → Made };
+
+    // What the words of a line with this number make of what the earlier lines made.
+    ghost item: { ℕ → Made → List (List ℕ) → Result Made TextKind };
+
+    // What holds of all that is made.
+    ghost IsSound: { Self → Type 0 };
+
+    /// Adds what the words of a line that is not skipped say.
+    fn add(&mut self, line: usize, words: &[u8]) -> Result<(), LineFault>
+        requires { IsSound self.old }
+        ensures made { Makes (item line (made self.old) (words_of words.now)) result (made self.new) }
+        ensures sound { OnOk result (IsSound self.new) };
+}
+
+fn add_line<T: Items>(items: &mut T, line: usize, bytes: &[u8]) -> Result<(), LineFault>
+    requires { T.IsSound items.old }
+    ensures made { Makes (after_line (T.item line) (T.made items.old) bytes.now) result (T.made items.new) }
+    ensures sound { OnOk result (T.IsSound items.new) }
+{
+    let Some(words) = content(bytes)? else {
+        return Ok(());
+    };
+    items.add(line, words)?;
+    Ok(())
+}
+
+/// Adds what the lines of a text say, each in turn, and gives the number of the lines. The error is the
+/// first fault, with its line.
+pub(crate) fn read_lines<T: Items>(items: &mut T, text: &[u8]) -> Result<usize, TextFault>
+    requires { T.IsSound items.old }
+    ensures made { MakesAll (after_lines T.item 1 (T.made items.old) (lines_of text.now)) (length (lines_of text.now)) result (T.made items.new) }
+    ensures sound { OnOk result (T.IsSound items.new) }
+    ensures few { IfOk result (λ count. count ≤ length text.now) }
+{
+    let mut rest = text;
+    let mut line = 0;
+    while !rest.is_empty() {
+        let (bytes, after) = cut_line(rest);
+        line += 1;
+        if let Err(fault) = add_line(items, line, bytes) {
+            return Err(fault.on_line(line));
+        }
+        rest = after;
+    }
+    Ok(line)
+}
