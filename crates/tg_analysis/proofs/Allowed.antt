@@ -8,7 +8,7 @@ use Rattle.tg_graph.specs.declared.rules.Rule.TheVariants.{Take, Grant, Create}
 use Rattle.tg_graph.specs.declared.rules.Refusal.{Refusal}
 use Rattle.tg_graph.specs.declared.rules.Refusal.TheVariants.{Unknown}
 use Rattle.tg_graph.specs.Sets.{member, is_empty_set, IsNamed, nothing}
-use Rattle.tg_analysis.specs.Derivations.{only, take_and_grant}
+use Rattle.tg_analysis.specs.Moves.{only, take_and_grant}
 use Rattle.tg_graph.specs.Graphs.{Name, ProtectionGraph, has_vertex}
 use Rattle.tg_graph.specs.Rules.{refused_if, unknown, missing, not_held, refusal_of}
 use Rattle.tg_graph.proofs.Sets.{same_set, member-where, named-where, member-nothing}

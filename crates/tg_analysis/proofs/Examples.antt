@@ -10,7 +10,7 @@ use Rattle.tg_graph.specs.Graphs.{Name, same_name, ProtectionGraph}
 use Rattle.tg_graph.specs.Rules.{refusal_of, after, with_edge}
 use Rattle.tg_graph.specs.RuleLists.{AllAccepted, after_all}
 use Rattle.tg_analysis.specs.Sharing.{linked, HeldInIsland}
-use Rattle.tg_analysis.specs.Derivations.{only, take_and_grant}
+use Rattle.tg_analysis.specs.Moves.{only, take_and_grant}
 use Rattle.tg_analysis.proofs.Floods.{flood_has_island}
 use Rattle.tg_graph.proofs.Rows.{same_bytes}
 

@@ -15,6 +15,9 @@ pub mod Floods
 pub mod Helpers
 pub mod Examples
 pub mod Underway
+pub mod Moved
+pub mod Steps
+pub mod Shortest
 pub mod Searched
 pub mod Rounds
 pub mod Ways

@@ -15,7 +15,8 @@ use Rattle.tg_graph.specs.Graphs.{Name, same_name, ProtectionGraph, has_vertex}
 use Rattle.tg_graph.specs.Rules.{with_edge, after}
 use Rattle.tg_graph.specs.RuleLists.{AllAccepted, after_all}
 use Rattle.tg_analysis.specs.Sharing.{linked}
-use Rattle.tg_analysis.specs.Derivations.{only, take_and_grant, Extends}
+use Rattle.tg_analysis.specs.Moves.{only, take_and_grant}
+use Rattle.tg_analysis.specs.Derivations.{Extends}
 use Rattle.tg_analysis.proofs.NameTests.{same_refl, any_push}
 use Rattle.tg_analysis.proofs.Fresh.{fresh}
 use Rattle.tg_analysis.proofs.Allowed.{only_named, take_and_grant_named, only_member, take_accepted, grant_accepted, create_accepted}

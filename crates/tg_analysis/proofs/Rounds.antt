@@ -13,10 +13,10 @@ use Rattle.tg_graph.specs.Graphs.{Name, same_name, ProtectionGraph, WellFormed}
 use Rattle.tg_graph.proofs.Rows.{same_bytes}
 use Rattle.tg_analysis.specs.Sharing.{linked}
 use Rattle.tg_analysis.specs.Linked.{NeighbourLists, neighbours, AreLinks}
-use Rattle.tg_analysis.specs.Searches.{Visits, is_among, with_met, IsSearch, GoesRound, AddsUnmet, AreNear, AreUnmetAt, AreUnmet, Meets}
+use Rattle.tg_analysis.specs.Searches.{Visits, is_among, with_met, IsSearch, IsInOrder, GoesRound, AddsUnmet, AreNear, AreUnmetAt, AreUnmet, Meets}
 use Rattle.tg_analysis.proofs.NameTests.{same_refl}
 use Rattle.tg_analysis.proofs.Places.{at-position, place_of}
-use Rattle.tg_analysis.proofs.Searched.{visit-key, key-visit, grows-then, grows-met, is-met, search-met}
+use Rattle.tg_analysis.proofs.Searched.{visit-key, key-visit, grows-then, grows-met, is-met, search-met, order-met}
 use Rattle.tg_analysis.proofs.Underway.{linked_ends}
 
 any-one : {X : Type 0} (t : X → Bool) (x : X) → list_any t (x ∷ []) ≡ true → t x ≡ true
@@ -81,13 +81,14 @@ module _ (g : ProtectionGraph) (met : Visits) (u : Name) (near : List ℕ) where
 
 -- ---- one after another is met
 module _ (g : ProtectionGraph) (well : WellFormed g) (u : Name) (place : ℕ) where
-  pub meets-none : (met : Visits) → IsSearch g met → Meets g met met []
-  meets-none met s = record { grows = record { places = λ k visit h. h; keys = λ v h. h }; search = s; there = λ w h. absurd (true≢false (sym h)) }
+  pub meets-none : (met : Visits) → IsSearch g met → IsInOrder met place → Meets g place met met []
+  meets-none met s o = record { grows = record { places = λ k visit h. h; keys = λ v h. h }; search = s; order = o; there = λ w h. absurd (true≢false (sym h)) }
 
-  pub meets-next : (old now : Visits) (names : List Name) (i : ℕ) (name : Name) → slice_get (keys_of old) place ≡ Some u → ((v : Name) → is_among v names → IsTrue (linked g u v)) → i < length names → name ≡ get_or names i name → Meets g old now (take i names) → Meets g old (with_met now name place) (take (i + 1) names)
+  pub meets-next : (old now : Visits) (names : List Name) (i : ℕ) (name : Name) → slice_get (keys_of old) place ≡ Some u → ((v : Name) → is_among v names → IsTrue (linked g u v)) → i < length names → name ≡ get_or names i name → Meets g place old now (take i names) → Meets g place old (with_met now name place) (take (i + 1) names)
   meets-next old now names i name here joined lt is m = record {
     grows = grows-then old now (with_met now name place) m.grows (grows-met now name place);
     search = search-met g well now u name place m.search (still (key-visit old place u here)) (joined name (list_any_at (same_name name) names i name lt (ap (same_name name) (sym is) ∙ same_refl name)));
+    order = order-met now name place m.order;
     there = λ w h. go w (any-cases (same_name w) (take i names) (get_or names i name) (sym (ap (list_any (same_name w)) (take_more names i name lt)) ∙ h));
   }
     where
@@ -98,9 +99,10 @@ module _ (g : ProtectionGraph) (well : WellFormed g) (u : Name) (place : ℕ) wh
       go w (inl h) = (grows-met now name place).keys w (m.there w h)
       go w (inr h) = subst (λ t. is_among t (keys_of (with_met now name place))) (is ∙ sym (same_bytes w (get_or names i name) h)) (is-met now name place)
 
-  pub round-whole : (old new : Visits) (names : List Name) (i : ℕ) → AreUnmet g old u names → length names ≤ i → Meets g old new (take i names) → GoesRound g u old new
+  pub round-whole : (old new : Visits) (names : List Name) (i : ℕ) → AreUnmet g old u names → length names ≤ i → Meets g place old new (take i names) → GoesRound g place u old new
   round-whole old new names i are le m = record {
     grows = m.grows;
     search = m.search;
+    order = m.order;
     round = λ w link. elim (are.all w link) [ inl e ↦ m.grows.keys w e | inr e ↦ m.there w (ap (list_any (same_name w)) (take_all i names le) ∙ e) ];
   }

@@ -10,7 +10,7 @@ use Rattle.tg_graph.specs.declared.right_sets.Right.{Right}
 use Rattle.tg_graph.specs.Graphs.{Name, same_name, ProtectionGraph, has_vertex, WellFormed}
 use Rattle.tg_graph.proofs.Rows.{same_bytes}
 use Rattle.tg_analysis.specs.Sharing.{linked, HeldInIsland}
-use Rattle.tg_analysis.specs.Searches.{Visits, is_among, with_met, IsMetBy, IsSearch, IsSearched, Grows, GoesRound}
+use Rattle.tg_analysis.specs.Searches.{Visits, is_among, with_met, IsMetBy, IsSearch, IsSearched, IsMetUpTo, IsInOrder, Grows, GoesRound}
 use Rattle.tg_analysis.proofs.NameTests.{same_refl}
 use Rattle.tg_analysis.proofs.Places.{place_of, place-known}
 use Rattle.tg_analysis.proofs.Counts.{Distinct, distinct_le}
@@ -121,21 +121,63 @@ module _ (g : ProtectionGraph) (well : WellFormed g) where
       go true = s
       go false = search-push met u v from s here link
 
+-- ---- in order
+pub order-start : (x : Name) → IsInOrder ((x, 0) ∷ []) 0
+order-start x = record { rising = λ j k v w a b le p q. omega (arith, first j v a p); so_far = λ k v from h. omega (arith, first k v from h) }
+  where
+    first : (k : ℕ) (v : Name) (from : ℕ) → slice_get {X = Name × ℕ} ((x, 0) ∷ []) k ≡ Some (v, from) → from ≡ 0
+    first zero v from h = let same : (x, 0) ≡ (v, from) = cc in sym (ap (λ (t : Name × ℕ). t.1) same)
+    first (suc k) v from h = absurd (cc)
+
+pub order-later : (met : Visits) (m n : ℕ) → m ≤ n → IsInOrder met m → IsInOrder met n
+order-later met m n le o = record { rising = o.rising; so_far = λ k v from h. omega (arith, le, o.so_far k v from h) }
+
+order-push : (met : Visits) (t : Name) (place : ℕ) → IsInOrder met place → IsInOrder (met ++ (t, place) ∷ []) place
+order-push met t place o = record {
+  rising = λ j k v w a b le p q. rising j k v w a b le (push-cases met (t, place) j (v, a) p) (push-cases met (t, place) k (w, b) q);
+  so_far = λ k v from h. so_far k v from (push-cases met (t, place) k (v, from) h);
+}
+  where
+    so_far : (k : ℕ) (v : Name) (from : ℕ) → (slice_get met k ≡ Some (v, from)) ⊎ ((k ≡ length met) × SameVisit (t, place) (v, from)) → from ≤ place
+    so_far k v from (inl h) = o.so_far k v from h
+    so_far k v from (inr h) = omega (arith, ap (λ (t : Name × ℕ). t.1) h.1)
+
+    rising : (j k : ℕ) (v w : Name) (a b : ℕ) → j ≤ k → (slice_get met j ≡ Some (v, a)) ⊎ ((j ≡ length met) × SameVisit (t, place) (v, a)) → (slice_get met k ≡ Some (w, b)) ⊎ ((k ≡ length met) × SameVisit (t, place) (w, b)) → a ≤ b
+    rising j k v w a b le (inl p) (inl q) = o.rising j k v w a b le p q
+    rising j k v w a b le p (inr q) = omega (arith, so_far j v a p, ap (λ (t : Name × ℕ). t.1) q.1)
+    rising j k v w a b le (inr p) (inl q) = absurd (omega (arith, le, p.0, slice_get_within met k (w, b) q))
+
+pub order-met : (met : Visits) (v : Name) (place : ℕ) → IsInOrder met place → IsInOrder (with_met met v place) place
+order-met met v place o = go (list_any (same_name v) (keys_of met))
+  where
+    go : (b : Bool) → IsInOrder (added b met v place) place
+    go true = o
+    go false = order-push met v place o
+
 -- ---- one more place
 module _ (g : ProtectionGraph) (right : Right) (y : Name) where
   pub searched-start : (met : Visits) → IsSearched g right y met 0
   searched-start met = record { none = λ k v from h e. absurd (omega arith); round = λ k v from w h e l. absurd (omega arith) }
 
-  pub searched-next : (old new : Visits) (place : ℕ) (visit : Name × ℕ) → IsSearched g right y old place → slice_get old place ≡ Some visit → g.holds visit.0 right y ≡ false → GoesRound g visit.0 old new → IsSearched g right y new (place + 1)
+  pub searched-next : (old new : Visits) (place : ℕ) (visit : Name × ℕ) → IsSearched g right y old place → slice_get old place ≡ Some visit → g.holds visit.0 right y ≡ false → GoesRound g place visit.0 old new → IsSearched g right y new (place + 1)
   searched-next old new place visit s here none r = record {
-    none = λ k v from h e. both_parts {P = λ t. g.holds t right y ≡ false} k v from h e (λ k' v' from' lt p. s.none k' v' from' lt p) (λ v' same. subst (λ t. g.holds t right y ≡ false) same none);
-    round = λ k v from w h e l. both_parts {P = λ t. IsTrue (linked g t w) → is_among w (keys_of new)} k v from h e (λ k' v' from' lt p. λ l'. r.grows.keys w (s.round k' v' from' w lt p l')) (λ v' same. λ l'. r.round w (subst (λ t. IsTrue (linked g t w)) (sym same) l')) l;
+    none = λ k v from h e. both_parts {P = λ _ t. g.holds t right y ≡ false} k v from h e (λ k' v' from' lt p. s.none k' v' from' lt p) (λ v' same. subst (λ t. g.holds t right y ≡ false) same none);
+    round = λ k v from w h e l. both_parts {P = λ n t. IsTrue (linked g t w) → IsMetUpTo new n w} k v from h e (λ k' v' from' lt p. λ l'. still k' w (s.round k' v' from' w lt p l')) (λ v' same. λ l'. by_now w (r.round w (subst (λ t. IsTrue (linked g t w)) (sym same) l'))) l;
   }
     where
-      both_parts : {P : Name → Type 0} (k : ℕ) (v : Name) (from : ℕ) → k < place + 1 → slice_get new k ≡ Some (v, from) → ((k' : ℕ) (v' : Name) (from' : ℕ) → k' < place → slice_get old k' ≡ Some (v', from') → P v') → ((v' : Name) → visit.0 ≡ v' → P v') → P v
+      still : (n : ℕ) (w : Name) → IsMetUpTo old n w → IsMetUpTo new n w
+      still n w m = (m.0, m.1, m.2, r.grows.places m.0 (w, m.1) m.3)
+
+      by_now : (w : Name) → is_among w (keys_of new) → IsMetUpTo new place w
+      by_now w among =
+          let at = place_of (keys_of new) w among in
+          let visit = key-visit new at.0 w at.1 in
+          (at.0, visit.0, r.order.so_far at.0 w visit.0 visit.1, visit.1)
+
+      both_parts : {P : ℕ → Name → Type 0} (k : ℕ) (v : Name) (from : ℕ) → k < place + 1 → slice_get new k ≡ Some (v, from) → ((k' : ℕ) (v' : Name) (from' : ℕ) → k' < place → slice_get old k' ≡ Some (v', from') → P k' v') → ((v' : Name) → visit.0 ≡ v' → P place v') → P k v
       both_parts {P} k v from h e before at = go (cases_lt k place)
         where
-          go : (k < place) ⊎ (place ≤ k) → P v
+          go : (k < place) ⊎ (place ≤ k) → P k v
           go (inl lt) =
               let within : k < length old = omega (arith, slice_get_within old place visit here) in
               let old_visit = get_or old k visit in
@@ -148,7 +190,7 @@ module _ (g : ProtectionGraph) (right : Right) (y : Name) where
               let now : slice_get new place ≡ Some visit = r.grows.places place visit here in
               let there : slice_get new place ≡ Some (v, from) = subst (λ n. slice_get new n ≡ Some (v, from)) is e in
               let same : visit ≡ (v, from) = cc in
-              at v (ap (λ (t : Name × ℕ). t.0) same)
+              subst (λ n. P n v) (sym is) (at v (ap (λ (t : Name × ℕ). t.0) same))
 
   -- a search that has gone round all that it met has met the whole island
   pub searched-whole : (x : Name) (met : Visits) (place : ℕ) → IsSearched g right y met place → slice_get met place ≡ None → slice_get (keys_of met) 0 ≡ Some x → HeldInIsland g right x y → ⊥
@@ -172,7 +214,8 @@ module _ (g : ProtectionGraph) (right : Right) (y : Name) where
       on a b among there link =
           let at = place_of (keys_of met) a among in
           let visit = key-visit met at.0 a at.1 in
-          s.round at.0 a visit.0 b (below at.0 (a, visit.0) visit.1) visit.1 link
+          let met_by = s.round at.0 a visit.0 b (below at.0 (a, visit.0) visit.1) visit.1 link in
+          place-known (keys_of met) met_by.0 b (visit-key met met_by.0 (b, met_by.1) met_by.3)
 
 -- ---- a search meets no more vertices than there are
 distinct : (vs : List Name) → IsDistinct bytes_eq vs → Distinct same_name same_bytes vs

@@ -1,7 +1,6 @@
 -- The way back from a vertex that a search has met.
 use Rattle.std.proofs.Common.{◌≡◌, ℕ, zero, suc, ◌<◌, ◌≤◌, ◌==◌, true, false, inl, inr, if◌then◌else◌, List, [], ◌∷◌, ◌++◌, Option, Some, None, slice_get, refl, sym, ap, ◌∙◌, subst, IsTrue, arith, bytes_eq}
 use Rattle.std.proofs.lemmas.Bool.{true≢false, both_ways, or_cases, false_from_ne_true}
-use Rattle.std.proofs.lemmas.Bool.Decides.{nat_tests}
 use Rattle.std.specs.List.{list_any, IsDistinct, position}
 use Rattle.std.specs.Map.{keys_of}
 use Rattle.std.specs.Option.{option_and_then}
@@ -9,54 +8,15 @@ use Rattle.tg_graph.specs.declared.right_sets.Right.{Right}
 use Rattle.tg_graph.specs.Graphs.{Name, same_name, ProtectionGraph, has_vertex}
 use Rattle.tg_graph.proofs.Rows.{same_bytes}
 use Rattle.tg_analysis.specs.Sharing.{linked, IsChain, NoRepeat}
-use Rattle.tg_analysis.specs.Searches.{Visits, is_among, back_of, GoesBack, IsWayBack, IsBackwards, IsSearch, IsSearched, IsWay}
+use Rattle.tg_analysis.specs.Searches.{Visits, is_among, back_of, GoesBack, IsWayBack, IsBackwards, IsSearch, IsSearched, IsInOrder, IsWay}
 use Rattle.tg_analysis.proofs.OneIsland.{linked_sym}
 use Rattle.tg_analysis.proofs.Places.{position-at, place-known}
 use Rattle.tg_analysis.proofs.Searched.{visit-key, key-visit}
-
-some_pair : (a b : Name × ℕ) → Some a ≡ Some b → (a.0 ≡ b.0) × (a.1 ≡ b.1)
-some_pair a b h = let e : a ≡ b = cc in (ap (λ (t : Name × ℕ). t.0) e, ap (λ (t : Name × ℕ). t.1) e)
-
--- what stands before the visit
-abbrev before_visit : Visits → Name × ℕ → Option (Name × ℕ)
-before_visit met visit = option_and_then {U = Name × ℕ} (λ (b : Name × ℕ). Some (b.0, visit.1)) (slice_get met visit.1)
-
-suc_test : (n : ℕ) → (suc n == 0) ≡ false
-suc_test n = grind (arith, nat_tests)
-
-back_suc : (met : Visits) (n : ℕ) → back_of met (suc n) ≡ option_and_then {U = Name × ℕ} (before_visit met) (slice_get met (suc n))
-back_suc met n = ap (λ b. if b then None else option_and_then {U = Name × ℕ} (before_visit met) (slice_get met (suc n))) (suc_test n)
+use Rattle.tg_analysis.proofs.Steps.{some_pair, before_visit, back_suc, StepBack, step_back}
+use Rattle.tg_analysis.proofs.Shortest.{shortest}
 
 pub backwards : (g : ProtectionGraph) (met : Visits) → IsSearch g met → IsBackwards met
 backwards g met s = λ place visit positive h. (s.trail place visit.0 visit.1 positive h).earlier
-
--- what a step back says
-pub record StepBack (met : Visits) (place : ℕ) (v : Name) (before : ℕ) : Type 0 where
-  pub positive : 0 < place
-  pub name : Name
-  pub here : slice_get met place ≡ Some (name, before)
-  pub from : ℕ
-  pub there : slice_get met before ≡ Some (v, from)
-
-pub step_back : (met : Visits) (place : ℕ) (v : Name) (before : ℕ) → back_of met place ≡ Some (v, before) → StepBack met place v before
-step_back met zero v before h = absurd (cc)
-step_back met (suc n) v before h = go (slice_get met (suc n)) refl (sym (back_suc met n) ∙ h)
-  where
-    go : (o : Option (Name × ℕ)) → slice_get met (suc n) ≡ o → option_and_then {U = Name × ℕ} (before_visit met) o ≡ Some (v, before) → StepBack met (suc n) v before
-    go None e h = absurd (cc)
-    go (Some visit) e h = inner (slice_get met visit.1) refl h
-      where
-        inner : (o : Option (Name × ℕ)) → slice_get met visit.1 ≡ o → option_and_then {U = Name × ℕ} (λ (b : Name × ℕ). Some (b.0, visit.1)) o ≡ Some (v, before) → StepBack met (suc n) v before
-        inner None f h = absurd (cc)
-        inner (Some b) f h =
-            let same = some_pair (b.0, visit.1) (v, before) h in
-            record {
-              positive = omega arith;
-              name = visit.0;
-              here = e ∙ ap (λ n. Some (visit.0, n)) same.1;
-              from = b.1;
-              there = ap (slice_get met) (sym same.1) ∙ f ∙ ap (λ n. Some (n, b.1)) same.0;
-            }
 
 back_goes : (met : Visits) (n : ℕ) (visit before : Name × ℕ) → slice_get met (suc n) ≡ Some visit → slice_get met visit.1 ≡ Some before → back_of met (suc n) ≡ None → ⊥
 back_goes met n visit before here there none = outer (slice_get met (suc n)) here (sym (back_suc met n) ∙ none)
@@ -149,11 +109,12 @@ module _ (g : ProtectionGraph) (met : Visits) (s : IsSearch g met) (apart : IsDi
           later e = (e.0, omega (arith, e.1, earlier_before), e.2)
 
   -- the way of a holder that the search comes to first
-  pub way-is : (right : Right) (y holder : Name) (place from : ℕ) (way : List Name) → slice_get met place ≡ Some (holder, from) → IsTrue (g.holds holder right y) → IsSearched g right y met place → IsWayBack met place way → IsWay g right x y holder way
-  way-is right y holder place from way here held searched back = record {
+  pub way-is : (right : Right) (y holder : Name) (place from : ℕ) (way : List Name) → slice_get met place ≡ Some (holder, from) → IsTrue (g.holds holder right y) → IsInOrder met place → IsSearched g right y met place → IsWayBack met place way → IsWay g right x y holder way
+  way-is right y holder place from way here held order searched back = record {
     held = held;
     joined = (way_from way place holder from back.0 here back.1 back.2).joined;
     apart = (way_from way place holder from back.0 here back.1 back.2).once;
+    shortest = shortest g met s right y place order searched way back.0 back.1 x first;
     none = λ has. short place way (start has) back;
   }
     where

@@ -3,6 +3,7 @@ pub mod Linked
 pub mod Numbering
 pub mod Flooding
 pub mod Holders
+pub mod Moves
 pub mod Derivations
 pub mod Questions
 pub mod Searches

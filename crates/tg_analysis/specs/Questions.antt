@@ -1,5 +1,6 @@
 -- Which fault a question about two names meets.
 use Rattle.std.specs.Prelude.{◌≡◌, not, if◌then◌else◌, nat_lt, length, Option, Some, None}
+use Rattle.tg_graph.specs.Limits.{most_vertices}
 use Rattle.tg_graph.specs.Graphs.{Name, ProtectionGraph, has_vertex}
 use Rattle.tg_analysis.specs.declared.questions.AskFault.{AskFault}
 use Rattle.tg_analysis.specs.declared.questions.AskFault.TheVariants.{Unknown, TooLarge, Memory}
@@ -13,9 +14,9 @@ unknown_or g x y later =
 abbrev pub question_fault : ProtectionGraph → Name → Name → Option AskFault
 question_fault g x y = unknown_or g x y None
 
--- the fault of a question that takes at most 1,024 vertices
+-- the fault of a question that takes a limited number of vertices
 abbrev pub derivation_fault : ProtectionGraph → Name → Name → Option AskFault
-derivation_fault g x y = unknown_or g x y (if nat_lt 1024 (length g.vertices) then Some TooLarge else None)
+derivation_fault g x y = unknown_or g x y (if nat_lt most_vertices (length g.vertices) then Some TooLarge else None)
 
 -- the fault that is due, or want of memory where none is
 abbrev pub IsDueFault : Option AskFault → AskFault → Type 0

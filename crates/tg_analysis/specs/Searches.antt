@@ -1,11 +1,12 @@
 -- Breadth-first searches for a vertex that holds a right.
-use Rattle.std.specs.Prelude.{◌≡◌, ℕ, ◌<◌, ◌==◌, IsTrue, true, false, if◌then◌else◌, List, [], ◌∷◌, ◌++◌, slice_get, nat_eq, Option, Some, None, ◌⊎◌}
+use Rattle.std.specs.Prelude.{◌≡◌, ℕ, ◌<◌, ◌≤◌, ◌==◌, IsTrue, true, false, if◌then◌else◌, List, [], ◌∷◌, ◌++◌, slice_get, nat_eq, Option, Some, None, ◌⊎◌}
 use Rattle.std.specs.List.{list_any}
 use Rattle.std.specs.Map.{keys_of}
 use Rattle.std.specs.Option.{option_and_then}
 use Rattle.tg_graph.specs.declared.right_sets.Right.{Right}
 use Rattle.tg_graph.specs.Graphs.{Name, same_name, ProtectionGraph, has_vertex}
 use Rattle.tg_analysis.specs.Sharing.{linked, IsChain, NoRepeat}
+use Rattle.tg_analysis.specs.Moves.{IsShortest}
 
 -- the vertices in the order in which they were met, each with the place of the one by which it was met
 abbrev pub Visits : Type 0
@@ -49,10 +50,19 @@ pub record IsSearch (g : ProtectionGraph) (met : Visits) : Type 0 where
   pub known : (v : Name) → is_among v (keys_of met) → IsTrue (has_vertex g v)
   pub trail : (place : ℕ) (v : Name) (from : ℕ) → 0 < place → slice_get met place ≡ Some (v, from) → IsMetBy g met place v from
 
--- no vertex before the place holds the right over y, and each neighbour of one is met
+-- the vertex was met by one up to the place
+abbrev pub IsMetUpTo : Visits → ℕ → Name → Type 0
+IsMetUpTo met place v = (at : ℕ) × (from : ℕ) × (from ≤ place) × (slice_get met at ≡ Some (v, from))
+
+-- the places of those by which the vertices were met rise, up to this place
+pub record IsInOrder (met : Visits) (place : ℕ) : Type 0 where
+  pub rising : (j k : ℕ) (v w : Name) (a b : ℕ) → j ≤ k → slice_get met j ≡ Some (v, a) → slice_get met k ≡ Some (w, b) → a ≤ b
+  pub so_far : (k : ℕ) (v : Name) (from : ℕ) → slice_get met k ≡ Some (v, from) → from ≤ place
+
+-- no vertex before the place holds the right over y, and each neighbour of one was met by that one or one before it
 pub record IsSearched (g : ProtectionGraph) (right : Right) (y : Name) (met : Visits) (place : ℕ) : Type 0 where
   pub none : (k : ℕ) (v : Name) (from : ℕ) → k < place → slice_get met k ≡ Some (v, from) → g.holds v right y ≡ false
-  pub round : (k : ℕ) (v : Name) (from : ℕ) (w : Name) → k < place → slice_get met k ≡ Some (v, from) → IsTrue (linked g v w) → is_among w (keys_of met)
+  pub round : (k : ℕ) (v : Name) (from : ℕ) (w : Name) → k < place → slice_get met k ≡ Some (v, from) → IsTrue (linked g v w) → IsMetUpTo met k w
 
 -- what was met is met, at the same place
 pub record Grows (old new : Visits) : Type 0 where
@@ -79,21 +89,24 @@ pub record AreUnmet (g : ProtectionGraph) (met : Visits) (u : Name) (names : Lis
   pub joined : (v : Name) → is_among v names → IsTrue (linked g u v)
   pub all : (v : Name) → IsTrue (linked g u v) → is_among v (keys_of met) ⊎ is_among v names
 
--- the search goes on: what was met stays, and these are met
-pub record Meets (g : ProtectionGraph) (old new : Visits) (names : List Name) : Type 0 where
+-- the search goes on from the place: what was met stays, and these are met
+pub record Meets (g : ProtectionGraph) (place : ℕ) (old new : Visits) (names : List Name) : Type 0 where
   pub grows : Grows old new
   pub search : IsSearch g new
+  pub order : IsInOrder new place
   pub there : (w : Name) → is_among w names → is_among w (keys_of new)
 
--- the search goes on from u: what was met stays, and all of its neighbours are met
-pub record GoesRound (g : ProtectionGraph) (u : Name) (old new : Visits) : Type 0 where
+-- the search goes on from u at the place: what was met stays, and all of its neighbours are met
+pub record GoesRound (g : ProtectionGraph) (place : ℕ) (u : Name) (old new : Visits) : Type 0 where
   pub grows : Grows old new
   pub search : IsSearch g new
+  pub order : IsInOrder new place
   pub round : (w : Name) → IsTrue (linked g u w) → is_among w (keys_of new)
 
--- each vertex linked to the next, from the one that holds the right over y to x, none twice; no link if x holds it
+-- each vertex linked to the next, from the one that holds the right over y to x, none twice, on a shortest way; no link if x holds it
 pub record IsWay (g : ProtectionGraph) (right : Right) (x y holder : Name) (links : List Name) : Type 0 where
   pub held : IsTrue (g.holds holder right y)
   pub joined : IsChain g holder links x
   pub apart : NoRepeat (holder ∷ links)
+  pub shortest : IsShortest g right x y links
   pub none : IsTrue (g.holds x right y) → links ≡ []

@@ -11,7 +11,7 @@ ghost use Rattle.tg_analysis.specs.Questions.{question_fault, IsDueFault};
 
 use crate::numbering::Islands;
 use crate::questions::AskFault;
-use crate::{flooding, sharing};
+use crate::{flooding, laws};
 use std::alloc::Global;
 use tg_graph::{Graph, Name, Right};
 
@@ -47,7 +47,7 @@ fn island_holds(graph: &Graph, islands: &Islands, right: Right, x: Name, y: Name
     requires target { has_vertex (graph_of graph.now) y ≡ true }
     ensures { IsTrue result ↔ CanShare (graph_of graph.now) right x y }
 {
-    sharing::shared_exactly();
+    laws::shared_exactly();
     let count = graph.len();
     let number = island_of(graph, islands, x);
     for position in 0..count {

@@ -5,7 +5,7 @@ ghost use Rattle.tg_graph.specs.Graphs.{has_vertex, WellFormed};
 ghost use Rattle.tg_graph.specs.GraphOf.{graph_of};
 ghost use Rattle.tg_analysis.specs.Sharing.{HeldInIsland};
 ghost use Rattle.tg_analysis.specs.Linked.{AreLinks};
-ghost use Rattle.tg_analysis.specs.Searches.{AreNear, AddsUnmet, AreUnmet, IsBackwards, IsWayBack, IsSearch, GoesRound, IsWay};
+ghost use Rattle.tg_analysis.specs.Searches.{AreNear, AddsUnmet, AreUnmet, IsBackwards, IsWayBack, IsSearch, IsInOrder, GoesRound, IsWay};
 
 use crate::links::Links;
 use crate::met::Met;
@@ -84,8 +84,9 @@ fn go_round(
     requires well_formed { WellFormed (graph_of graph.now) }
     requires links { AreLinks (graph_of graph.now) links.now }
     requires search { IsSearch (graph_of graph.now) met.old }
+    requires order { IsInOrder met.old place }
     requires here { slice_get (keys_of met.old) place ≡ Some vertex }
-    ensures { OnOk result (GoesRound (graph_of graph.now) vertex met.old met.new) }
+    ensures { OnOk result (GoesRound (graph_of graph.now) place vertex met.old met.new) }
 {
     let names = unmet(alloc, graph, links, met, vertex)?;
     for name in &names {
@@ -108,7 +109,7 @@ fn way_back(alloc: Global, met: &Met, place: usize) -> Result<Vec<Name>, AllocEr
     Ok(way)
 }
 
-/// A chain of links to `x` from a vertex that holds the right over `y`, if there is one.
+/// A shortest chain of links to `x` from a vertex that holds the right over `y`, if there is one.
 ///
 /// It is found breadth first from `x`, neighbours in name order.
 /// The one error is want of memory.

@@ -2,6 +2,7 @@
 ghost use Rattle.std.specs.Prelude.{◌≡◌, ◌≤◌, IsTrue, IfOk, IfErr, OnOk, MatchOption, None, length};
 ghost use Rattle.tg_graph.specs.Graphs.{has_vertex, WellFormed};
 ghost use Rattle.tg_graph.specs.GraphOf.{graph_of};
+ghost use Rattle.tg_graph.specs.Limits.{most_vertices};
 ghost use Rattle.tg_graph.specs.RuleLists.{CanShare};
 ghost use Rattle.tg_analysis.specs.Sharing.{IsChain};
 ghost use Rattle.tg_analysis.specs.Derivations.{end_of, IsCarried, IsDerivation};
@@ -11,9 +12,7 @@ use crate::chains::chain_to;
 use crate::moves::add_move;
 use crate::questions::AskFault;
 use std::alloc::{AllocError, Global};
-use tg_graph::{Graph, Name, Right, Rule};
-
-const MOST_VERTICES: usize = 1024;
+use tg_graph::{Graph, MOST_VERTICES, Name, Right, Rule};
 
 // The rules by which the right over `y` goes from a holder along a chain of links.
 fn carry(
@@ -25,13 +24,13 @@ fn carry(
     links: &[Name],
 ) -> Result<Vec<Rule>, AllocError>
     requires well_formed { WellFormed (graph_of graph.now) }
-    requires small { length graph.now ≤ 1024 }
-    requires short { length links.now ≤ 1024 }
+    requires small { length graph.now ≤ most_vertices }
+    requires short { length links.now ≤ most_vertices }
     requires known { IsTrue (has_vertex (graph_of graph.now) y) }
     requires held { IsTrue ((graph_of graph.now).holds holder right y) }
     requires joined { IsChain (graph_of graph.now) holder links.now (end_of holder links.now) }
     ensures { IfOk result (λ rules.
-        IsCarried (graph_of graph.now) right y (end_of holder links.now) links.now rules.items) }
+        IsCarried (graph_of graph.now) right y holder links.now rules.items) }
 {
     let mut rules = Vec::new(alloc);
     let mut next = 0;
@@ -52,7 +51,7 @@ fn derive(
     y: Name,
 ) -> Result<Option<Vec<Rule>>, AllocError>
     requires well_formed { WellFormed (graph_of graph.now) }
-    requires small { length graph.now ≤ 1024 }
+    requires small { length graph.now ≤ most_vertices }
     requires known { IsTrue (has_vertex (graph_of graph.now) x) }
     requires known_too { IsTrue (has_vertex (graph_of graph.now) y) }
     ensures { IfOk result (λ answer. MatchOption answer

@@ -6,25 +6,25 @@ use crate::answers::can_share;
 use crate::derivations::derivation;
 use crate::flooding::islands;
 use crate::questions::AskFault;
-use std::alloc::Global;
+use std::alloc::{AllocError, Global};
 use std::process::Abort;
 use std::test::Fail;
 use tg_graph::{EdgeFault, Graph, Name, Right, Rights, Rule, VertexFault};
 
 fn added(graph: &mut Graph, name: Name) -> Result<(), VertexFault> {
-    if graph.add_vertex(name).is_err() {
-        graph.add_vertex(name)?;
+    match graph.add_vertex(name) {
+        Err(VertexFault::Memory) => graph.add_vertex(name),
+        outcome => outcome,
     }
-    Ok(())
 }
 
 fn joined(graph: &mut Graph, x: Name, y: Name, rights: Rights) -> Result<(), EdgeFault>
     requires { IsNamed rights }
 {
-    if graph.add_edge(x, y, rights).is_err() {
-        graph.add_edge(x, y, rights)?;
+    match graph.add_edge(x, y, rights) {
+        Err(EdgeFault::Memory) => graph.add_edge(x, y, rights),
+        outcome => outcome,
     }
-    Ok(())
 }
 
 // _0 has g over _1, and _1 has r over _2.
@@ -44,7 +44,7 @@ fn refused_islands(rt: HostRuntime) -> Result<(), Fail> {
     let graph = three(rt.alloc())?;
     let islands = match islands(rt.alloc(), &graph) {
         Ok(islands) => islands,
-        Err(_) => islands(rt.alloc(), &graph)?,
+        Err(AllocError) => islands(rt.alloc(), &graph)?,
     };
     assert!(rt; islands.count() == 2);
     assert!(rt; islands.of(0) == Some(0) && islands.of(1) == Some(0) && islands.of(2) == Some(1));

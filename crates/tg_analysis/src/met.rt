@@ -45,6 +45,7 @@ impl Met {
         ensures apart { IsDistinct bytes_eq (keys_of self.now) }
         ensures small { length self.now < 2 ^ 63 }
     {
+        // The length of a map is small: a fact that its length alone tells.
         let _ = self.places.len();
         match self.places.get_index(place) {
             Some((name, from)) => Some((*name, *from)),

@@ -1,10 +1,12 @@
 //! The rules that carry a right over one link.
 ghost use Rattle.std.specs.Prelude.{◌≡◌, ℕ, ◌+◌, ◌^◌, ◌<◌, ◌≤◌, true, false, IsTrue, IfOk, length};
 ghost use Rattle.tg_graph.specs.Names.{helper_name};
+ghost use Rattle.tg_graph.specs.Limits.{most_vertices};
 ghost use Rattle.tg_graph.specs.Graphs.{has_vertex, WellFormed};
 ghost use Rattle.tg_graph.specs.GraphOf.{graph_of};
 ghost use Rattle.tg_analysis.specs.Sharing.{linked};
-ghost use Rattle.tg_analysis.specs.Derivations.{only, take_and_grant, direct_rule, rule_for_helper, helper_rules, IsUnderway, GoesOn};
+ghost use Rattle.tg_analysis.specs.Moves.{only, take_and_grant};
+ghost use Rattle.tg_analysis.specs.Derivations.{direct_rule, rule_for_helper, helper_rules, IsUnderway, GoesOn};
 
 use std::alloc::AllocError;
 use tg_graph::{Graph, Name, Right, Rights, Rule};
@@ -128,10 +130,10 @@ pub fn add_move(
     requires underway { IsUnderway (graph_of graph.now) right y q rules.old.items next }
     requires linked { IsTrue (linked (graph_of graph.now) p q) }
     requires known { IsTrue (has_vertex (graph_of graph.now) y) }
-    requires small { length graph.now ≤ 1024 }
+    requires small { length graph.now ≤ most_vertices }
     requires low { next ≤ 2 ^ 31 }
     ensures { IfOk result (λ last.
-        GoesOn (graph_of graph.now) right y p rules.old.items rules.new.items next last) }
+        GoesOn (graph_of graph.now) right y p q rules.old.items rules.new.items next last) }
 {
     match direct_rule(graph, right, y, p, q) {
         Some(rule) => {

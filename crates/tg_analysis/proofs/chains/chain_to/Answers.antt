@@ -1,8 +1,8 @@
-use Rattle.std.proofs.Common.{◌<◌, length, sym, ◌∙◌, arith}
+use Rattle.std.proofs.Common.{◌<◌, ◌+◌, length, sym, ◌∙◌, arith}
 use Rattle.std.proofs.lemmas.Option.{slice_get_within}
 use Rattle.std.specs.Map.{keys_of}
 use Rattle.tg_graph.specs.GraphOf.{graph_of}
-use Rattle.tg_analysis.proofs.Searched.{visit-key, key-visit, none_unless, few-met, searched-next, searched-whole}
+use Rattle.tg_analysis.proofs.Searched.{visit-key, key-visit, none_unless, few-met, order-start, order-later, searched-next, searched-whole}
 use Rattle.tg_analysis.proofs.Ways.{backwards, way-is}
 use Rattle.tg_analysis.proofs.chains.chain_to.Goals as goal
 
@@ -12,7 +12,7 @@ way_back-requires c = backwards (graph_of c.args.graph.now) c.loop-visit.met c.l
 pub returns-then-holds : goal.returns-then-holds
 returns-then-holds c =
     let visit = c.in-Some.visit in
-    way-is (graph_of c.args.graph.now) c.loop-visit.met c.loop-visit.invariant.search c.at.ensures.apart c.args.x c.loop-visit.invariant.first c.args.right c.args.y visit.0 c.loop-visit.place visit.1 c.in_ok-way_back.field-0.items (sym c.at.ensures.value ∙ c.in-Some.is) (sym c.holds.ensures ∙ c.if-holds.true) c.loop-visit.invariant.searched c.in_ok-way_back.ensures
+    way-is (graph_of c.args.graph.now) c.loop-visit.met c.loop-visit.invariant.search c.at.ensures.apart c.args.x c.loop-visit.invariant.first c.args.right c.args.y visit.0 c.loop-visit.place visit.1 c.in_ok-way_back.field-0.items (sym c.at.ensures.value ∙ c.in-Some.is) (sym c.holds.ensures ∙ c.if-holds.true) c.loop-visit.invariant.order c.loop-visit.invariant.searched c.in_ok-way_back.ensures
 
 pub go_round-requires-clause-here : goal.go_round-requires-clause-here
 go_round-requires-clause-here c = visit-key c.loop-visit.met c.loop-visit.place c.in-Some.visit (sym c.at.ensures.value ∙ c.in-Some.is)
@@ -33,6 +33,7 @@ loop-visit-preserved c =
     record {
       search = round.search;
       first = visit-key c.go_round.new.met 0 (c.args.x, start.0) (round.grows.places 0 (c.args.x, start.0) start.1);
+      order = order-later c.go_round.new.met c.loop-visit.place (c.loop-visit.place + 1) (omega arith) round.order;
       searched = searched-next (graph_of c.args.graph.now) c.args.right c.args.y met c.go_round.new.met c.loop-visit.place c.in-Some.visit c.loop-visit.invariant.searched (sym c.at.ensures.value ∙ c.in-Some.is) (sym c.holds.ensures ∙ c.if-holds.false) round;
     }
 

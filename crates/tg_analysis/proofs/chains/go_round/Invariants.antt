@@ -4,4 +4,4 @@ use Rattle.tg_analysis.specs.Searches.{Meets}
 use Rattle.tg_analysis.proofs.chains.go_round.Given as goal
 
 abbrev pub invariant-loop-name : goal.invariant-loop-name
-invariant-loop-name l = Meets (graph_of l.fn.graph) l.fn.met l.met (take l.name-index l.name-items)
+invariant-loop-name l = Meets (graph_of l.fn.graph) l.fn.place l.fn.met l.met (take l.name-index l.name-items)

@@ -1,5 +1,6 @@
-//! What lists of rules can lead to.
+//! Laws: what lists of rules can lead to, and how long a derivation is.
 ghost use Rattle.tg_analysis.specs.Sharing.{SharedExactly, NothingElse, FewRules, StaysWellFormed, TogetherAsAlone, FloodHasIsland, HelpersSuffice};
+ghost use Rattle.tg_analysis.specs.Derivations.{DerivationsAreShort};
 
 /// A right can be shared exactly where some vertex of the island holds it.
 pub fn shared_exactly()
@@ -34,4 +35,9 @@ pub fn flood_has_island()
 /// Where the first helpers' names are all in use, the graph has as many vertices.
 pub fn helpers_suffice()
     ensures { HelpersSuffice }
+{}
+
+/// A derivation has at most four rules for each vertex but one.
+pub fn derivations_are_short()
+    ensures { DerivationsAreShort }
 {}

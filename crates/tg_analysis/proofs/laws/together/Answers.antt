@@ -1,5 +1,5 @@
 use Rattle.tg_analysis.proofs.Together.{together}
-use Rattle.tg_analysis.proofs.sharing.together.Goals as goal
+use Rattle.tg_analysis.proofs.laws.together.Goals as goal
 
 pub returns : goal.returns
 returns c = together
