@@ -13,3 +13,5 @@ pub mod RowsOf
 pub mod NewNames
 pub mod Drafts
 pub mod DraftLaws
+pub mod RefusalOrder
+pub mod RightsWords

@@ -1,5 +1,5 @@
 -- What the definitions come to. Each law is the contract of a function of the module `laws`.
-use Rattle.std.specs.Prelude.{◌≡◌, ℕ, ◌<◌, ◌≤◌, ◌⊎◌, ◌↔◌, List, ◌∷◌, ◌++◌, length, slice_index, slice_get, All, Some, Result, MatchResult}
+use Rattle.std.specs.Prelude.{◌≡◌, ◌≢◌, codes, ℕ, ◌<◌, ◌≤◌, ◌⊎◌, ◌↔◌, List, ◌∷◌, ◌++◌, length, slice_index, slice_get, All, Some, None, MatchOption, Result, MatchResult}
 use Rattle.std.specs.Map.{keys_of, lookup}
 use Rattle.std.specs.Ordering.{nat_cmp}
 use Rattle.std.specs.declared.cmp.Ordering.TheVariants.{Less}
@@ -15,6 +15,14 @@ use Rattle.tg_graph.specs.RuleLists.{AllAccepted, after_all}
 use Rattle.tg_graph.specs.Additions.{Leads, Runs, AreNamed}
 use Rattle.tg_graph.specs.Rows.{Entries, IsGraph, row_number}
 use Rattle.tg_graph.specs.RowsOf.{IsRowOf}
+use Rattle.tg_graph.specs.declared.right_sets.Rights.{Rights}
+use Rattle.tg_graph.specs.declared.rules.Refusal.{Refusal}
+use Rattle.tg_graph.specs.declared.rules.Refusal.TheVariants.{Full}
+use Rattle.tg_graph.specs.Sets.{IsNamed}
+use Rattle.tg_graph.specs.Rules.{rights_of}
+use Rattle.tg_graph.specs.RefusalOrder.{RefusalHolds, IsLeastRefusal}
+use Rattle.tg_graph.specs.Letters.{letters_of, set_of_letters}
+use Rattle.tg_graph.specs.RightsWords.{IsRightsWord, IsSetOf, in_order}
 
 -- a to z
 abbrev pub IsLetter : ℕ → Type 0
@@ -73,3 +81,31 @@ AcceptedAreNamed = (g : ProtectionGraph) (rules : List Rule) → AllAccepted g r
 -- which then carries out all of them, unless there is no memory
 abbrev pub AcceptedRun : Type 0
 AcceptedRun = (g : ProtectionGraph) (rules : List Rule) (result : Result (Unit {0}) (ℕ × RuleFault)) (h : ProtectionGraph) → AllAccepted g rules → Runs g rules result h → MatchResult result (λ _. h ≡ after_all g rules) (λ fault. fault.1 ≡ Memory)
+
+-- a rule is refused for the first reason that applies to it
+abbrev pub LeastRefusal : Type 0
+LeastRefusal = (g : ProtectionGraph) (rule : Rule) → IsNamed (rights_of rule) → (refusal : Refusal) → (refusal_of g rule ≡ Some refusal) ↔ IsLeastRefusal g rule refusal
+
+-- it is accepted exactly where none applies
+abbrev pub AcceptedWhereNone : Type 0
+AcceptedWhereNone = (g : ProtectionGraph) (rule : Rule) → IsNamed (rights_of rule) → (refusal_of g rule ≡ None) ↔ ((refusal : Refusal) → ¬ RefusalHolds g rule refusal)
+
+-- that there are too many vertices is never a graph's answer
+abbrev pub NeverFull : Type 0
+NeverFull = (g : ProtectionGraph) (rule : Rule) → refusal_of g rule ≢ Some Full
+
+-- a rights word is read as the set of exactly the rights whose letters it has, and nothing else is read
+abbrev pub RightsWordsExactly : Type 0
+RightsWordsExactly = (bytes : List ℕ) → MatchOption (set_of_letters bytes) (¬ IsRightsWord bytes) (λ s. IsRightsWord bytes × IsSetOf bytes s)
+
+-- the letters of a set are those of its rights, in the order t g r w e
+abbrev pub LettersInOrder : Type 0
+LettersInOrder = (s : Rights) → letters_of s ≡ in_order s
+
+-- and are read as the set, where there is one
+abbrev pub LettersComeBack : Type 0
+LettersComeBack = (s : Rights) → IsNamed s → 0 < length (letters_of s) → set_of_letters (letters_of s) ≡ Some s
+
+-- a set without letters is the one that `-` writes
+abbrev pub DashIsEmpty : Type 0
+DashIsEmpty = (s : Rights) → IsNamed s → length (letters_of s) ≡ 0 → set_of_letters (codes "-") ≡ Some s

@@ -10,6 +10,8 @@ pub mod GraphOf
 pub mod Additions
 pub mod Letters
 pub mod RowsOf
+pub mod RefusalOrder
+pub mod RightsWords
 pub mod Laws
 pub mod Limits
 pub mod Drafts

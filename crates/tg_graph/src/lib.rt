@@ -17,6 +17,8 @@ pub mod rules;
 pub mod session;
 mod shared_row;
 #[cfg(test)]
+mod test_values;
+#[cfg(test)]
 mod tests;
 
 pub use draft::{Draft, Ready};

@@ -7,6 +7,7 @@ use crate::names::Name;
 use crate::protection::{EdgeFault, Graph, VertexFault};
 use crate::right_sets::{Right, Rights};
 use crate::rules::{Rule, RuleFault};
+use crate::test_values::same;
 use std::alloc::AllocError;
 use std::process::Abort;
 use std::test::Fail;
@@ -14,32 +15,6 @@ use std::test::Fail;
 // The names _0, _1 and _2.
 fn names() -> (Name, Name, Name) {
     (Name::helper(0), Name::helper(1), Name::helper(2))
-}
-
-// Whether the vertices at a position have the same row.
-fn same_row(one: &Graph, other: &Graph, position: usize) -> bool {
-    if one.row_len(position) != other.row_len(position) {
-        return false;
-    }
-    for place in 0..one.row_len(position) {
-        if one.row_at(position, place) != other.row_at(position, place) {
-            return false;
-        }
-    }
-    true
-}
-
-// Whether two graphs have the same vertices in the same order, with the same rows.
-fn same(one: &Graph, other: &Graph) -> bool {
-    if one.len() != other.len() {
-        return false;
-    }
-    for position in 0..one.len() {
-        if one.name_at(position) != other.name_at(position) || !same_row(one, other, position) {
-            return false;
-        }
-    }
-    true
 }
 
 fn copied(rt: &impl Abort, g: &Graph) -> Result<Graph, AllocError> {

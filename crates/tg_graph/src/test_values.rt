@@ -1,0 +1,114 @@
+//! Names, sets, rules and graphs for the tests of several modules. A word that is none fails its test.
+ghost use Rattle.tg_graph.specs.Sets.{IsNamed};
+ghost use Rattle.tg_graph.specs.Rules.{rights_of};
+
+use crate::names::Name;
+use crate::protection::Graph;
+use crate::right_sets::Rights;
+use crate::rules::Rule;
+use bitflags::Flags;
+use std::alloc::Global;
+use std::process::Abort;
+use std::test::Fail;
+
+/// The name that the bytes are.
+pub fn name(rt: &impl Abort, bytes: &[u8]) -> Name {
+    Name::parse(bytes).expect(rt, "a name")
+}
+
+/// The set that the letters write.
+pub fn set(rt: &impl Abort, letters: &[u8]) -> Rights
+    ensures { IsNamed result }
+{
+    Rights::from_letters(letters).expect(rt, "a set of rights")
+}
+
+pub fn take(rt: &impl Abort, x: &[u8], y: &[u8], z: &[u8], letters: &[u8]) -> Rule
+    ensures { IsNamed (rights_of result) }
+{
+    Rule::Take {
+        x: name(rt, x),
+        y: name(rt, y),
+        z: name(rt, z),
+        rights: set(rt, letters),
+    }
+}
+
+pub fn grant(rt: &impl Abort, x: &[u8], y: &[u8], z: &[u8], letters: &[u8]) -> Rule
+    ensures { IsNamed (rights_of result) }
+{
+    Rule::Grant {
+        x: name(rt, x),
+        y: name(rt, y),
+        z: name(rt, z),
+        rights: set(rt, letters),
+    }
+}
+
+pub fn create(rt: &impl Abort, x: &[u8], n: &[u8], letters: &[u8]) -> Rule
+    ensures { IsNamed (rights_of result) }
+{
+    Rule::Create {
+        x: name(rt, x),
+        n: name(rt, n),
+        rights: set(rt, letters),
+    }
+}
+
+pub fn remove(rt: &impl Abort, x: &[u8], y: &[u8], letters: &[u8]) -> Rule
+    ensures { IsNamed (rights_of result) }
+{
+    Rule::Remove {
+        x: name(rt, x),
+        y: name(rt, y),
+        rights: set(rt, letters),
+    }
+}
+
+/// The vertices a and b, and the edge between them if its label is not empty.
+pub fn two(rt: &impl Abort, alloc: Global, letters: &[u8]) -> Result<Graph, Fail> {
+    let mut g = Graph::new(alloc);
+    let (a, b) = (name(rt, b"a"), name(rt, b"b"));
+    g.add_vertex(a)?;
+    g.add_vertex(b)?;
+    let label = set(rt, letters);
+    if !label.is_empty() {
+        g.add_edge(a, b, label)?;
+    }
+    Ok(g)
+}
+
+/// The vertices a, b and c, where a has t over b, and b has r over c.
+pub fn three(rt: &impl Abort, alloc: Global) -> Result<Graph, Fail> {
+    let mut g = two(rt, alloc, b"t")?;
+    let c = name(rt, b"c");
+    g.add_vertex(c)?;
+    g.add_edge(name(rt, b"b"), c, set(rt, b"r"))?;
+    Ok(g)
+}
+
+// Whether the vertices at a position have the same row.
+fn same_row(one: &Graph, other: &Graph, position: usize) -> bool {
+    if one.row_len(position) != other.row_len(position) {
+        return false;
+    }
+    for place in 0..one.row_len(position) {
+        if one.row_at(position, place) != other.row_at(position, place) {
+            return false;
+        }
+    }
+    true
+}
+
+/// Whether two graphs have the same vertices in the same order, with the same rows.
+pub fn same(one: &Graph, other: &Graph) -> bool {
+    if one.len() != other.len() {
+        return false;
+    }
+    for position in 0..one.len() {
+        if one.name_at(position) != other.name_at(position) || !same_row(one, other, position) {
+            return false;
+        }
+    }
+    true
+}
