@@ -5,3 +5,4 @@ pub mod ReportLaws
 pub mod ActLemmas
 pub mod ScriptLemmas
 pub mod DerivedTexts
+pub mod DealingLemmas

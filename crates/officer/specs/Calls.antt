@@ -36,6 +36,12 @@ call_words call.Input = Input
 call_words (call.File c graph) = File (command_words c) graph.now
 call_words (call.Files c graph second) = Files (command_words c) graph.now second.now
 
+-- the command of a call: a graph and rules in one text where nothing else is said
+abbrev pub command_of : CallWords → CommandWords
+command_of Input = Case
+command_of (File command graph) = command
+command_of (Files command graph second) = command
+
 -- the commands on a graph
 abbrev pub graph_command : List ℕ → Option CommandWords
 graph_command name = if bytes_eq name (codes "check") then Some Check else (if bytes_eq name (codes "islands") then Some Islands else None)

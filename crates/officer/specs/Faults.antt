@@ -1,9 +1,10 @@
 -- What the program says where it gives no report.
-use Rattle.std.specs.Prelude.{◌≡◌, ◌⊎◌, ℕ, List, codes, Option, None, Some}
+use Rattle.std.specs.Prelude.{ℕ, List, codes}
 use Rattle.officer.specs.declared.fetch.FetchFault.{FetchFault}
 use Rattle.officer.specs.declared.fetch.FetchFault.TheVariants as fetch
 use Rattle.officer.specs.declared.fault.Cause.{Cause}
-use Rattle.officer.specs.Calls.{CallWords, Input, File, Files}
+use Rattle.officer.specs.declared.surroundings.WordsFault.{WordsFault}
+use Rattle.officer.specs.declared.surroundings.WordsFault.TheVariants as words
 use Rattle.officer.specs.declared.fault.Cause.TheVariants.{Graph, Second, TooLarge, Memory, Write, Words}
 
 -- the line on standard error
@@ -30,17 +31,7 @@ cause_of_fetch fetch.Unreadable unreadable = unreadable
 cause_of_fetch fetch.TooLarge unreadable = TooLarge
 cause_of_fetch fetch.Memory unreadable = Memory
 
--- what may keep an input from being fetched; an unreadable one has a cause of its own
-abbrev pub StopsInput : Cause → Cause → Type 0
-StopsInput unreadable cause = (cause ≡ unreadable) ⊎ (cause ≡ TooLarge) ⊎ (cause ≡ Memory)
-
--- what may keep the report of a call from being made
-abbrev pub StopsCall : CallWords → Cause → Type 0
-StopsCall Input cause = StopsInput Graph cause
-StopsCall (File command graph) cause = StopsInput Graph cause
-StopsCall (Files command graph file) cause = StopsInput Graph cause ⊎ (cause ≡ Second)
-
--- what may keep the report that words ask for from being made: they have no form, or there was no memory, or what stops their call
-abbrev pub StopsWords : Option CallWords → Cause → Type 0
-StopsWords None cause = (cause ≡ Words) ⊎ (cause ≡ Memory)
-StopsWords (Some call) cause = StopsCall call cause
+-- the cause where the words of the command line were not given
+abbrev pub cause_of_words : WordsFault → Cause
+cause_of_words words.Unreadable = Words
+cause_of_words words.Memory = Memory

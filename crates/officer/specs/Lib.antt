@@ -5,4 +5,5 @@ pub mod Readings
 pub mod Runs
 pub mod Reports
 pub mod Outcomes
+pub mod Dealings
 pub mod ReportLaws

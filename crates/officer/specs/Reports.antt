@@ -16,7 +16,7 @@ use Rattle.tg_text.specs.RoundTrips.{lines_of_rules}
 use Rattle.tg_text.specs.Canonical.{line_of, canonical_text, in_name_order}
 use Rattle.tg_analysis.specs.Sharing.{InOneIsland}
 use Rattle.tg_analysis.specs.Derivations.{IsDerivation}
-use Rattle.officer.specs.Calls.{call_of, CallWords, Input, File, Files, CommandWords, Case, Check, Apply, Islands, Share, Derive, Run}
+use Rattle.officer.specs.Calls.{CommandWords, Case, Check, Apply, Islands, Share, Derive, Run}
 use Rattle.officer.specs.Readings.{ReportText, graph_in, rules_in, Question, question_in}
 use Rattle.officer.specs.Runs.{playing_in, IsPlayed}
 
@@ -134,18 +134,3 @@ IsReport Islands first second = IsFor AreIslandLines (graph_in first)
 IsReport (Share right x y) first second = IsFor IsAnswer (question_in first right x y)
 IsReport (Derive right x y) first second = IsFor IsDerived (question_in first right x y)
 IsReport Run first second = IsFor (λ playing. IsPlayed playing.graph playing.script) (playing_in first second)
-
--- a report that a call may give: that of its command, for the texts that were there
-abbrev pub GivesReport : CallWords → ReportText → Type 0
-GivesReport Input report = (first : List ℕ) × IsReport Case first [] report
-GivesReport (File command graph) report = (first : List ℕ) × IsReport command first [] report
-GivesReport (Files command graph file) report = (first : List ℕ) × (second : List ℕ) × IsReport command first second report
-
--- the status of a report that words may ask for
-pub record IsStatus (status : ℕ) : Type 0 where
-  pub words : List (List ℕ)
-  pub call : CallWords
-  pub report : ReportText
-  pub asked : call_of words ≡ Some call
-  pub given : GivesReport call report
-  pub same : status ≡ report.status

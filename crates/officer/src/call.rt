@@ -1,101 +1,112 @@
 //! What the program does for its command line.
-ghost use Rattle.std.specs.Prelude.{◌≡◌, ◌⊎◌, IfOk, IfErr, Some, map, string_bytes};
-ghost use Rattle.officer.specs.Faults.{cause_of_fetch, StopsInput, StopsCall, StopsWords};
-ghost use Rattle.officer.specs.Calls.{call_words, call_of, CallWords};
-ghost use Rattle.officer.specs.Reports.{GivesReport, IsStatus};
+ghost use Rattle.std.specs.Prelude.{◌≡◌, [], IfOk, Ok, map, string_bytes};
+ghost use Rattle.officer.specs.Calls.{call_words};
+ghost use Rattle.officer.specs.Dealings.{Deals, Reads, ReadsBoth, Prints, AnswersCall, IsRun, and_text, bytes_of, text_or, seen};
 ghost use Rattle.officer.specs.Outcomes.{report_text};
 
-use crate::deliver::deliver;
+use crate::deliver::DeliverFault;
 use crate::fault::Cause;
-use crate::fetch::{FetchFault, fetch};
+use crate::fetch::FetchFault;
 use crate::outcome::Report;
 use crate::report::report;
-use crate::words::{Call, Command, read_words};
+use crate::surroundings::{Surroundings, WordsFault};
+use crate::words::{Call, read_words};
 use std::alloc::{AllocError, Global};
-use std::fs::File;
-use std::io::{Error, ErrorKind, Read};
-use std::rt::{Env, Files};
-use std::{env, io};
 
-// What is to be said of an input that was not fetched; an unreadable one has a cause of its own.
-fn cause_of_fetch(fault: FetchFault, unreadable: Cause) -> Cause
-    ensures { result ≡ cause_of_fetch fault unreadable }
-{
-    match fault {
-        FetchFault::Unreadable => unreadable,
-        FetchFault::TooLarge => Cause::TooLarge,
-        FetchFault::Memory => Cause::Memory,
-    }
+// The texts of a command; where it has one text, the second is empty.
+#[derive(Drop)]
+struct Texts {
+    first: Vec<u8>,
+    second: Vec<u8>,
 }
 
-// Want of memory, or the cause that is given.
-fn cause_of_error(error: Error, other: Cause) -> Cause
-    ensures { (result ≡ Cause.Memory) ⊎ (result ≡ other) }
+// A text that was read, or why it was not; an unreadable one has a cause of its own.
+fn text_or(answer: Result<Vec<u8>, FetchFault>, unreadable: Cause) -> Result<Vec<u8>, Cause>
+    ensures { seen (λ bytes. bytes.items) result ≡ text_or unreadable (seen (λ bytes. bytes.items) answer) }
 {
-    match error.kind() {
-        ErrorKind::OutOfMemory => Cause::Memory,
-        _ => other,
-    }
-}
-
-fn bytes_of<R: Read>(
-    rt: &impl AllocGlobal,
-    reader: &mut R,
-    unreadable: Cause,
-) -> Result<Vec<u8>, Cause>
-    ensures { IfErr result (StopsInput unreadable) }
-{
-    match fetch(rt.alloc(), reader) {
+    match answer {
         Ok(bytes) => Ok(bytes),
-        Err(fault) => Err(cause_of_fetch(fault, unreadable)),
+        Err(FetchFault::Unreadable) => Err(unreadable),
+        Err(FetchFault::TooLarge) => Err(Cause::TooLarge),
+        Err(FetchFault::Memory) => Err(Cause::Memory),
     }
 }
 
-fn bytes_of_file<R: Files + AllocGlobal>(
-    rt: &R,
-    path: &str,
-    unreadable: Cause,
-) -> Result<Vec<u8>, Cause>
-    ensures { IfErr result (StopsInput unreadable) }
+// The text of a graph alone.
+fn alone(alloc: Global, graph: Result<Vec<u8>, FetchFault>) -> Result<Texts, Cause>
+    ensures { seen bytes_of result ≡ and_text (text_or Cause.Graph (seen (λ bytes. bytes.items) graph)) (Ok []) }
 {
-    match File::open(rt, path) {
-        Ok(mut file) => bytes_of(rt, &mut file, unreadable),
-        Err(error) => Err(cause_of_error(error, unreadable)),
+    match text_or(graph, Cause::Graph) {
+        Ok(first) => Ok(Texts {
+            first,
+            second: Vec::new(alloc),
+        }),
+        Err(cause) => Err(cause),
     }
 }
 
-// The report that a call asks for.
-fn answer<R: Input + Files + AllocGlobal>(rt: &R, call: &Call) -> Result<Report, Cause>
-    ensures given { IfOk result (λ report. GivesReport (call_words call.now) (report_text report)) }
-    ensures cause { IfErr result (StopsCall (call_words call.now)) }
+// The text of a graph and a second text.
+fn beside(first: Vec<u8>, second: Result<Vec<u8>, FetchFault>) -> Result<Texts, Cause>
+    ensures { seen bytes_of result ≡ and_text (Ok first.items) (text_or Cause.Second (seen (λ bytes. bytes.items) second)) }
 {
-    let (command, first, second) = match *call {
-        Call::Input => (
-            Command::Case,
-            bytes_of(rt, &mut rt.reader(), Cause::Graph)?,
-            Vec::new(rt.alloc()),
-        ),
-        Call::File(command, graph) => (
-            command,
-            bytes_of_file(rt, graph, Cause::Graph)?,
-            Vec::new(rt.alloc()),
-        ),
-        Call::Files(command, graph, second) => (
-            command,
-            bytes_of_file(rt, graph, Cause::Graph)?,
-            bytes_of_file(rt, second, Cause::Second)?,
-        ),
+    match text_or(second, Cause::Second) {
+        Ok(second) => Ok(Texts { first, second }),
+        Err(cause) => Err(cause),
+    }
+}
+
+// The texts of two files, the first of them a graph.
+fn both<S: Surroundings>(
+    alloc: Global,
+    surroundings: &mut S,
+    graph: &str,
+    second: &str,
+) -> Result<Texts, Cause>
+    ensures { Deals (S.dealings surroundings.old) (S.dealings surroundings.new) (ReadsBoth graph.now second.now (seen bytes_of result)) }
+{
+    match text_or(surroundings.file(alloc, graph), Cause::Graph) {
+        Ok(first) => beside(first, surroundings.file(alloc, second)),
+        Err(cause) => Err(cause),
+    }
+}
+
+// The texts of a call, the graph first.
+fn texts_of<S: Surroundings>(
+    alloc: Global,
+    surroundings: &mut S,
+    call: &Call,
+) -> Result<Texts, Cause>
+    ensures { Deals (S.dealings surroundings.old) (S.dealings surroundings.new) (Reads (call_words call.now) (seen bytes_of result)) }
+{
+    match *call {
+        Call::Input => alone(alloc, surroundings.input(alloc)),
+        Call::File(_, graph) => alone(alloc, surroundings.file(alloc, graph)),
+        Call::Files(_, graph, second) => both(alloc, surroundings, graph, second),
+    }
+}
+
+// Prints a report, and answers its status.
+fn print<S: Surroundings>(surroundings: &mut S, report: &Report) -> Result<u8, Cause>
+    ensures { Deals (S.dealings surroundings.old) (S.dealings surroundings.new) (Prints (report_text report.now) result) }
+{
+    match surroundings.print(&report.bytes) {
+        Ok(()) => Ok(report.status),
+        Err(DeliverFault::CannotWrite) => Err(Cause::Write),
+    }
+}
+
+// Reads the texts of a call, and prints its report.
+fn answer<S: Surroundings>(alloc: Global, surroundings: &mut S, call: &Call) -> Result<u8, Cause>
+    ensures { Deals (S.dealings surroundings.old) (S.dealings surroundings.new) (AnswersCall (call_words call.now) result) }
+{
+    let texts = match texts_of(alloc, surroundings, call) {
+        Ok(texts) => texts,
+        Err(cause) => return Err(cause),
     };
-    match report(rt.alloc(), &command, &first, &second) {
-        Ok(report) => Ok(report),
-        Err(_) => Err(Cause::Memory),
+    match report(alloc, &call.command(), &texts.first, &texts.second) {
+        Ok(report) => print(surroundings, &report),
+        Err(AllocError) => Err(Cause::Memory),
     }
-}
-
-// The words of the command line, without the name of the program.
-fn given_words<R: Env + AllocGlobal>(rt: &R) -> io::Result<Vec<String>> {
-    let words = env::args(rt)?.skip(1).collect(rt.alloc())?;
-    Ok(words)
 }
 
 // The words as slices.
@@ -109,31 +120,23 @@ fn slices<'a>(alloc: Global, words: &'a [String]) -> Result<Vec<&'a str>, AllocE
     Ok(slices)
 }
 
-// The report that words ask for.
-fn answer_words<R: Input + Files + AllocGlobal>(rt: &R, words: &[String]) -> Result<Report, Cause>
-    ensures given { IfOk result (λ report. (call : CallWords) × (call_of (map string_bytes words.now) ≡ Some call) × GivesReport call (report_text report)) }
-    ensures cause { IfErr result (StopsWords (call_of (map string_bytes words.now))) }
+/// Prints the report that the words of the command line ask for. It answers the status of the report.
+///
+/// The words come first, then the graph, and a second file only once the graph is there. An error means that one of
+/// these did not come, that there was no memory, or that the output did not take the report.
+pub fn run<S: Surroundings>(alloc: Global, surroundings: &mut S) -> Result<u8, Cause>
+    ensures { Deals (S.dealings surroundings.old) (S.dealings surroundings.new) (IsRun result) }
 {
-    let Ok(words) = slices(rt.alloc(), words) else {
+    let words = match surroundings.words(alloc) {
+        Ok(words) => words,
+        Err(WordsFault::Unreadable) => return Err(Cause::Words),
+        Err(WordsFault::Memory) => return Err(Cause::Memory),
+    };
+    let Ok(words) = slices(alloc, &words) else {
         return Err(Cause::Memory);
     };
     match read_words(&words) {
-        Some(call) => answer(rt, &call),
+        Some(call) => answer(alloc, surroundings, &call),
         None => Err(Cause::Words),
-    }
-}
-
-/// Prints the report that the command line asks for. It answers the status of the report.
-pub fn run<R: Env + Input + Files + Print + AllocGlobal>(rt: &R) -> Result<u8, Cause>
-    ensures { IfOk result IsStatus }
-{
-    let words = match given_words(rt) {
-        Ok(words) => words,
-        Err(error) => return Err(cause_of_error(error, Cause::Words)),
-    };
-    let report = answer_words(rt, &words)?;
-    match deliver(&mut io::writer(rt), &report.bytes) {
-        Ok(()) => Ok(report.status),
-        Err(_) => Err(Cause::Write),
     }
 }

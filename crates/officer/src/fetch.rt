@@ -1,10 +1,10 @@
 //! The bytes of an input.
 ghost use Rattle.std.specs.Prelude.{◌≡◌, ◌<◌, ◌≤◌, length, IfOk, OnOk, IsErrOf, IfSome, vec_len};
 ghost use Rattle.std.specs.Io.KnownBytes.{IsAtEnd};
-ghost use Rattle.officer.specs.Inputs.{TakesIn};
+ghost use Rattle.officer.specs.Inputs.{most_input_bytes, TakesIn};
 
 use std::alloc::{AllocError, Global};
-use std::io::Read;
+use std::io::{ErrorKind, Read};
 use thiserror::Error;
 
 /// How many bytes an input may have.
@@ -16,10 +16,10 @@ const MOST_READS: usize = 67_108_865;
 /// Why an input was not fetched.
 #[derive(Debug, Drop, Error)]
 pub enum FetchFault {
-    /// A read failed.
+    /// A read failed, or `MOST_READS` reads, interrupted ones among them, did not come to the end.
     #[error("cannot read")]
     Unreadable,
-    /// There are more than `MOST_BYTES` bytes, or `MOST_READS` reads did not come to the end.
+    /// There are more than `MOST_BYTES` bytes.
     #[error("too large")]
     TooLarge,
     /// No memory was left for the bytes.
@@ -38,18 +38,19 @@ impl From<AllocError> for FetchFault {
     }
 }
 
-// Appends the bytes of one read. It answers whether the reader was at its end.
+// Appends the bytes of one read, none of one that was interrupted. It answers whether the reader was at its end.
 fn read_on<R: Read>(
     reader: &mut R,
     piece: &mut [u8],
     bytes: &mut Vec<u8>,
 ) -> Result<bool, FetchFault>
     requires room { 0 < length piece.old }
-    requires within { vec_len bytes.old ≤ MOST_BYTES }
+    requires within { vec_len bytes.old ≤ most_input_bytes }
     ensures { TakesIn (R.remaining reader.old) (R.remaining reader.new) bytes.old.items bytes.new.items result }
 {
     let count = match reader.read(piece) {
         Ok(count) => count,
+        Err(error) if error.kind() == ErrorKind::Interrupted => return Ok(false),
         Err(_) => return Err(FetchFault::Unreadable),
     };
     if count > MOST_BYTES - bytes.len() {
@@ -59,12 +60,12 @@ fn read_on<R: Read>(
     Ok(count == 0)
 }
 
-/// All bytes that a reader gives up to its end.
+/// All bytes that a reader gives up to its end. A read that was interrupted is tried again.
 pub fn fetch<R: Read>(alloc: Global, reader: &mut R) -> Result<Vec<u8>, FetchFault>
     ensures whole { IfOk result (λ bytes. IfSome (R.remaining reader.old) (λ given. bytes.items ≡ given)) }
-    ensures within { IfOk result (λ bytes. vec_len bytes ≤ MOST_BYTES) }
+    ensures within { IfOk result (λ bytes. vec_len bytes ≤ most_input_bytes) }
     ensures ended { OnOk result (IsAtEnd (R.remaining reader.new)) }
-    ensures too_large { IsErrOf result FetchFault.TooLarge → IfSome (R.remaining reader.old) (λ given. MOST_BYTES < length given) }
+    ensures too_large { IsErrOf result FetchFault.TooLarge → IfSome (R.remaining reader.old) (λ given. most_input_bytes < length given) }
 {
     let mut piece = [0; 16_384];
     let mut bytes = Vec::new(alloc);
@@ -73,5 +74,5 @@ pub fn fetch<R: Read>(alloc: Global, reader: &mut R) -> Result<Vec<u8>, FetchFau
             return Ok(bytes);
         }
     }
-    Err(FetchFault::TooLarge)
+    Err(FetchFault::Unreadable)
 }

@@ -1,4 +1,5 @@
 use crate::report::report;
+use crate::test_reports::reports;
 use crate::words::Command;
 use std::alloc::{AllocError, Global};
 use std::process::Abort;
@@ -21,21 +22,6 @@ fn vertices(alloc: Global, count: usize) -> Result<String, AllocError> {
         text.push_str(line.as_str())?;
     }
     Ok(text)
-}
-
-// The report of a command has these bytes and this status.
-fn reports<R: Abort + AllocGlobal>(
-    rt: &R,
-    command: Command,
-    first: &[u8],
-    second: &[u8],
-    wanted: &[u8],
-    status: u8,
-) -> Result<(), Fail> {
-    let made = report(rt.alloc(), &command, first, second)?;
-    assert!(rt; made.bytes.as_slice() == wanted);
-    assert!(rt; made.status == status);
-    Ok(())
 }
 
 fn checks<R: Abort + AllocGlobal>(

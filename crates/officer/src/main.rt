@@ -21,6 +21,11 @@ pub mod report;
 mod run_tests;
 mod running;
 mod sharing;
+pub mod surroundings;
+#[cfg(test)]
+mod surroundings_tests;
+#[cfg(test)]
+mod test_reports;
 #[cfg(test)]
 mod tests;
 pub mod words;
@@ -28,9 +33,10 @@ pub mod words;
 use call::run;
 use fault::fault_line;
 use std::process::ExitCode;
+use surroundings::Process;
 
 fn main(rt: HostRuntime) -> ExitCode {
-    match run(&rt) {
+    match run(rt.alloc(), &mut Process::new(&rt)) {
         Ok(status) => ExitCode::from(status),
         Err(cause) => {
             let (line, status) = fault_line(cause);

@@ -1,21 +1,21 @@
-use crate::tests::reports;
+use crate::test_reports::reports;
 use crate::words::Command;
 use std::process::Abort;
 use std::test::Fail;
 
-// What a script on a graph reports. The texts have `/` for each line feed.
+// What a script on a graph reports.
 fn runs<R: Abort + AllocGlobal>(
     rt: &R,
-    graph: &str,
-    script: &str,
-    wanted: &str,
+    graph: &[u8],
+    script: &[u8],
+    wanted: &[u8],
 ) -> Result<(), Fail> {
     reports(rt, Command::Run, graph, script, wanted, 0)
 }
 
 // The fault of a script on a graph with a take and a right to be taken.
-fn refuses<R: Abort + AllocGlobal>(rt: &R, script: &str, wanted: &str) -> Result<(), Fail> {
-    let graph = "vertex a/vertex b/vertex c/edge a b t/edge b c r/";
+fn refuses<R: Abort + AllocGlobal>(rt: &R, script: &[u8], wanted: &[u8]) -> Result<(), Fail> {
+    let graph = b"vertex a\nvertex b\nvertex c\nedge a b t\nedge b c r\n";
     reports(rt, Command::Run, graph, script, wanted, 1)
 }
 
@@ -23,9 +23,9 @@ fn refuses<R: Abort + AllocGlobal>(rt: &R, script: &str, wanted: &str) -> Result
 fn a_read_that_was_changed(rt: HostRuntime) -> Result<(), Fail> {
     runs(
         &rt,
-        "vertex a/vertex b/vertex c/edge a b t/edge a c w/edge b a t/edge b c r/",
-        "seats 2/cells 8/1 begin/2 begin/1 take a b c r/2 take b a c w/1 commit/2 commit/",
-        "3 1 done/4 2 done/5 1 done/6 2 done/7 1 done 0/8 2 refused changed 0 a/graph/vertex a/vertex b/vertex c/edge a b t/edge a c rw/edge b a t/edge b c r/",
+        b"vertex a\nvertex b\nvertex c\nedge a b t\nedge a c w\nedge b a t\nedge b c r\n",
+        b"seats 2\ncells 8\n1 begin\n2 begin\n1 take a b c r\n2 take b a c w\n1 commit\n2 commit\n",
+        b"3 1 done\n4 2 done\n5 1 done\n6 2 done\n7 1 done 0\n8 2 refused changed 0 a\ngraph\nvertex a\nvertex b\nvertex c\nedge a b t\nedge a c rw\nedge b a t\nedge b c r\n",
     )?;
     Ok(())
 }
@@ -34,9 +34,9 @@ fn a_read_that_was_changed(rt: HostRuntime) -> Result<(), Fail> {
 fn a_missing_name_that_was_made(rt: HostRuntime) -> Result<(), Fail> {
     runs(
         &rt,
-        "vertex a/vertex b/vertex c/edge a b t/",
-        "seats 2/cells 8/1 begin/1 take a b n r/2 begin/2 create c n r/2 commit/1 commit/",
-        "3 1 done/4 1 refused unknown n/5 2 done/6 2 done/7 2 done 0/8 1 refused changed 0 n/graph/vertex a/vertex b/vertex c/vertex n/edge a b t/edge c n r/",
+        b"vertex a\nvertex b\nvertex c\nedge a b t\n",
+        b"seats 2\ncells 8\n1 begin\n1 take a b n r\n2 begin\n2 create c n r\n2 commit\n1 commit\n",
+        b"3 1 done\n4 1 refused unknown n\n5 2 done\n6 2 done\n7 2 done 0\n8 1 refused changed 0 n\ngraph\nvertex a\nvertex b\nvertex c\nvertex n\nedge a b t\nedge c n r\n",
     )?;
     Ok(())
 }
@@ -45,9 +45,9 @@ fn a_missing_name_that_was_made(rt: HostRuntime) -> Result<(), Fail> {
 fn sessions_side_by_side(rt: HostRuntime) -> Result<(), Fail> {
     runs(
         &rt,
-        "vertex a/vertex b/vertex c/vertex d/edge a b t/edge b c r/",
-        "seats 2/cells 8/1 begin/2 begin/1 take a b c r/2 create d n g/2 commit/1 commit/",
-        "3 1 done/4 2 done/5 1 done/6 2 done/7 2 done 0/8 1 done 1/graph/vertex a/vertex b/vertex c/vertex d/vertex n/edge a b t/edge a c r/edge b c r/edge d n g/",
+        b"vertex a\nvertex b\nvertex c\nvertex d\nedge a b t\nedge b c r\n",
+        b"seats 2\ncells 8\n1 begin\n2 begin\n1 take a b c r\n2 create d n g\n2 commit\n1 commit\n",
+        b"3 1 done\n4 2 done\n5 1 done\n6 2 done\n7 2 done 0\n8 1 done 1\ngraph\nvertex a\nvertex b\nvertex c\nvertex d\nvertex n\nedge a b t\nedge a c r\nedge b c r\nedge d n g\n",
     )?;
     Ok(())
 }
@@ -56,9 +56,9 @@ fn sessions_side_by_side(rt: HostRuntime) -> Result<(), Fail> {
 fn questions_in_a_session(rt: HostRuntime) -> Result<(), Fail> {
     runs(
         &rt,
-        "vertex a/vertex b/vertex c/edge a b t/edge b c r/",
-        "seats 2/cells 8/1 begin/1 take a b c r/1 commit/2 begin/2 holds r a c/2 share w a c/2 commit/",
-        "3 1 done/4 1 done/5 1 done 0/6 2 done/7 2 yes/8 2 no/9 2 done 1/graph/vertex a/vertex b/vertex c/edge a b t/edge a c r/edge b c r/",
+        b"vertex a\nvertex b\nvertex c\nedge a b t\nedge b c r\n",
+        b"seats 2\ncells 8\n1 begin\n1 take a b c r\n1 commit\n2 begin\n2 holds r a c\n2 share w a c\n2 commit\n",
+        b"3 1 done\n4 1 done\n5 1 done 0\n6 2 done\n7 2 yes\n8 2 no\n9 2 done 1\ngraph\nvertex a\nvertex b\nvertex c\nedge a b t\nedge a c r\nedge b c r\n",
     )?;
     Ok(())
 }
@@ -67,9 +67,9 @@ fn questions_in_a_session(rt: HostRuntime) -> Result<(), Fail> {
 fn every_cell_used(rt: HostRuntime) -> Result<(), Fail> {
     runs(
         &rt,
-        "",
-        "seats 1/cells 1/1 begin/1 commit/1 begin/1 commit/1 begin/1 abort/",
-        "3 1 done/4 1 done 0/5 1 done/6 1 refused journal-full/7 1 done/8 1 done/graph/",
+        b"",
+        b"seats 1\ncells 1\n1 begin\n1 commit\n1 begin\n1 commit\n1 begin\n1 abort\n",
+        b"3 1 done\n4 1 done 0\n5 1 done\n6 1 refused journal-full\n7 1 done\n8 1 done\ngraph\n",
     )?;
     Ok(())
 }
@@ -78,9 +78,9 @@ fn every_cell_used(rt: HostRuntime) -> Result<(), Fail> {
 fn a_commit_without_a_session(rt: HostRuntime) -> Result<(), Fail> {
     runs(
         &rt,
-        "",
-        "seats 1/cells 4/1 begin/1 commit/1 commit/",
-        "3 1 done/4 1 done 0/5 1 refused not-open/graph/",
+        b"",
+        b"seats 1\ncells 4\n1 begin\n1 commit\n1 commit\n",
+        b"3 1 done\n4 1 done 0\n5 1 refused not-open\ngraph\n",
     )?;
     Ok(())
 }
@@ -89,9 +89,9 @@ fn a_commit_without_a_session(rt: HostRuntime) -> Result<(), Fail> {
 fn refused_acts(rt: HostRuntime) -> Result<(), Fail> {
     runs(
         &rt,
-        "vertex a/vertex b/vertex c/edge a b t/edge b c r/",
-        "seats 1/cells 2/1 commit/1 begin/1 begin/1 holds r a z/1 take a b c w/1 abort/1 abort/",
-        "3 1 refused not-open/4 1 done/5 1 refused already-open/6 1 refused unknown z/7 1 refused not-held w/8 1 done/9 1 refused not-open/graph/vertex a/vertex b/vertex c/edge a b t/edge b c r/",
+        b"vertex a\nvertex b\nvertex c\nedge a b t\nedge b c r\n",
+        b"seats 1\ncells 2\n1 commit\n1 begin\n1 begin\n1 holds r a z\n1 take a b c w\n1 abort\n1 abort\n",
+        b"3 1 refused not-open\n4 1 done\n5 1 refused already-open\n6 1 refused unknown z\n7 1 refused not-held w\n8 1 done\n9 1 refused not-open\ngraph\nvertex a\nvertex b\nvertex c\nedge a b t\nedge b c r\n",
     )?;
     Ok(())
 }
@@ -100,9 +100,9 @@ fn refused_acts(rt: HostRuntime) -> Result<(), Fail> {
 fn a_refused_step_is_touched(rt: HostRuntime) -> Result<(), Fail> {
     runs(
         &rt,
-        "vertex a/vertex b/vertex c/vertex d/edge a b t/edge b c r/",
-        "seats 3/cells 8/1 begin/2 begin/3 begin/1 take a b c r/2 create d n g/3 remove d n g/1 commit/2 commit/3 commit/",
-        "3 1 done/4 2 done/5 3 done/6 1 done/7 2 done/8 3 refused unknown n/9 1 done 0/10 2 done 1/11 3 refused changed 1 d/graph/vertex a/vertex b/vertex c/vertex d/vertex n/edge a b t/edge a c r/edge b c r/edge d n g/",
+        b"vertex a\nvertex b\nvertex c\nvertex d\nedge a b t\nedge b c r\n",
+        b"seats 3\ncells 8\n1 begin\n2 begin\n3 begin\n1 take a b c r\n2 create d n g\n3 remove d n g\n1 commit\n2 commit\n3 commit\n",
+        b"3 1 done\n4 2 done\n5 3 done\n6 1 done\n7 2 done\n8 3 refused unknown n\n9 1 done 0\n10 2 done 1\n11 3 refused changed 1 d\ngraph\nvertex a\nvertex b\nvertex c\nvertex d\nvertex n\nedge a b t\nedge a c r\nedge b c r\nedge d n g\n",
     )?;
     Ok(())
 }
@@ -111,9 +111,9 @@ fn a_refused_step_is_touched(rt: HostRuntime) -> Result<(), Fail> {
 fn sharing_rests_on_every_name(rt: HostRuntime) -> Result<(), Fail> {
     runs(
         &rt,
-        "vertex a/vertex b/vertex c/edge a b t/edge b c r/",
-        "seats 2/cells 8/1 begin/1 share w a c/2 begin/2 create b n -/2 commit/1 commit/",
-        "3 1 done/4 1 no/5 2 done/6 2 done/7 2 done 0/8 1 refused changed 0 b/graph/vertex a/vertex b/vertex c/vertex n/edge a b t/edge b c r/",
+        b"vertex a\nvertex b\nvertex c\nedge a b t\nedge b c r\n",
+        b"seats 2\ncells 8\n1 begin\n1 share w a c\n2 begin\n2 create b n -\n2 commit\n1 commit\n",
+        b"3 1 done\n4 1 no\n5 2 done\n6 2 done\n7 2 done 0\n8 1 refused changed 0 b\ngraph\nvertex a\nvertex b\nvertex c\nvertex n\nedge a b t\nedge b c r\n",
     )?;
     Ok(())
 }
@@ -122,9 +122,9 @@ fn sharing_rests_on_every_name(rt: HostRuntime) -> Result<(), Fail> {
 fn sharing_beside_an_empty_session(rt: HostRuntime) -> Result<(), Fail> {
     runs(
         &rt,
-        "vertex a/vertex b/vertex c/edge a b t/edge b c r/",
-        "seats 2/cells 8/1 begin/1 share w a c/2 begin/2 commit/1 commit/",
-        "3 1 done/4 1 no/5 2 done/6 2 done 0/7 1 done 1/graph/vertex a/vertex b/vertex c/edge a b t/edge b c r/",
+        b"vertex a\nvertex b\nvertex c\nedge a b t\nedge b c r\n",
+        b"seats 2\ncells 8\n1 begin\n1 share w a c\n2 begin\n2 commit\n1 commit\n",
+        b"3 1 done\n4 1 no\n5 2 done\n6 2 done 0\n7 1 done 1\ngraph\nvertex a\nvertex b\nvertex c\nedge a b t\nedge b c r\n",
     )?;
     Ok(())
 }
@@ -133,24 +133,24 @@ fn sharing_beside_an_empty_session(rt: HostRuntime) -> Result<(), Fail> {
 fn a_session_left_open(rt: HostRuntime) -> Result<(), Fail> {
     runs(
         &rt,
-        "vertex a/",
-        "seats 1/cells 1/1 begin/1 create a b tg/",
-        "3 1 done/4 1 done/graph/vertex a/",
+        b"vertex a\n",
+        b"seats 1\ncells 1\n1 begin\n1 create a b tg\n",
+        b"3 1 done\n4 1 done\ngraph\nvertex a\n",
     )?;
     Ok(())
 }
 
 #[test]
 fn headers_refused(rt: HostRuntime) -> Result<(), Fail> {
-    refuses(&rt, "", "refused script line 1 no-header/")?;
-    refuses(&rt, "cells 8/", "refused script line 1 bad-word/")?;
-    refuses(&rt, "seats 2/", "refused script line 2 no-header/")?;
-    refuses(&rt, "seats 65/", "refused script line 1 bad-number/")?;
-    refuses(&rt, "seats 01/", "refused script line 1 bad-number/")?;
+    refuses(&rt, b"", b"refused script line 1 no-header\n")?;
+    refuses(&rt, b"cells 8\n", b"refused script line 1 bad-word\n")?;
+    refuses(&rt, b"seats 2\n", b"refused script line 2 no-header\n")?;
+    refuses(&rt, b"seats 65\n", b"refused script line 1 bad-number\n")?;
+    refuses(&rt, b"seats 01\n", b"refused script line 1 bad-number\n")?;
     refuses(
         &rt,
-        "seats 1/cells 4097/",
-        "refused script line 2 bad-number/",
+        b"seats 1\ncells 4097\n",
+        b"refused script line 2 bad-number\n",
     )?;
     Ok(())
 }
@@ -159,30 +159,34 @@ fn headers_refused(rt: HostRuntime) -> Result<(), Fail> {
 fn events_refused(rt: HostRuntime) -> Result<(), Fail> {
     refuses(
         &rt,
-        "seats 1/cells 1/2 begin/",
-        "refused script line 3 bad-number/",
+        b"seats 1\ncells 1\n2 begin\n",
+        b"refused script line 3 bad-number\n",
     )?;
     refuses(
         &rt,
-        "seats 1/cells 1/x begin/",
-        "refused script line 3 bad-number/",
+        b"seats 1\ncells 1\nx begin\n",
+        b"refused script line 3 bad-number\n",
     )?;
     refuses(
         &rt,
-        "seats 1/cells 1/1 take a b/",
-        "refused script line 3 word-count/",
+        b"seats 1\ncells 1\n1 take a b\n",
+        b"refused script line 3 word-count\n",
     )?;
     refuses(
         &rt,
-        "seats 1/cells 1/1 holds rw a b/",
-        "refused script line 3 bad-rights/",
+        b"seats 1\ncells 1\n1 holds rw a b\n",
+        b"refused script line 3 bad-rights\n",
     )?;
     refuses(
         &rt,
-        "seats 1/cells 1/9 fly/",
-        "refused script line 3 bad-word/",
+        b"seats 1\ncells 1\n9 fly\n",
+        b"refused script line 3 bad-word\n",
     )?;
-    refuses(&rt, "seats 1/cells 1/1/", "refused script line 3 bad-word/")?;
+    refuses(
+        &rt,
+        b"seats 1\ncells 1\n1\n",
+        b"refused script line 3 bad-word\n",
+    )?;
     Ok(())
 }
 
@@ -191,9 +195,9 @@ fn the_graph_is_read_first(rt: HostRuntime) -> Result<(), Fail> {
     reports(
         &rt,
         Command::Run,
-        "vertex a/edge a",
-        "seats 65/",
-        "refused graph line 2 word-count/",
+        b"vertex a\nedge a",
+        b"seats 65\n",
+        b"refused graph line 2 word-count\n",
         1,
     )?;
     Ok(())

@@ -1,176 +1,16 @@
-use crate::deliver::deliver;
-use crate::fault::{Cause, fault_line};
-use crate::fetch::{FetchFault, fetch};
-use crate::report::report;
-use crate::words::{Call, Command, read_words};
-use std::alloc::Global;
-use std::io;
-use std::io::{Error, ErrorKind, Read, Write};
-use std::process::Abort;
+use crate::test_reports::reports;
+use crate::words::Command;
 use std::test::Fail;
-
-// Gives three bytes, and fails from then on.
-#[derive(Drop)]
-struct Broken {
-    gave: bool,
-}
-
-impl Read for Broken {
-    fn read(&mut self, buf: &mut [u8]) -> io::Result<usize> {
-        if self.gave || buf.len() < 3 {
-            return Err(Error::from(ErrorKind::Other));
-        }
-        self.gave = true;
-        Ok(3)
-    }
-}
-
-// Fills each buffer, and never ends.
-#[derive(Drop)]
-struct Endless;
-
-impl Read for Endless {
-    fn read(&mut self, buf: &mut [u8]) -> io::Result<usize> {
-        Ok(buf.len())
-    }
-}
-
-// Takes so many bytes in all, and fails where it would take none.
-#[derive(Drop)]
-struct Full {
-    room: usize,
-}
-
-impl Write for Full {
-    fn write(&mut self, buf: &[u8]) -> io::Result<usize> {
-        let count = self.room.min(buf.len());
-        if count == 0 {
-            return Err(Error::from(ErrorKind::Other));
-        }
-        self.room -= count;
-        Ok(count)
-    }
-
-    fn flush(&mut self) -> io::Result<()> {
-        Ok(())
-    }
-}
-
-// Takes all, and is not to be flushed.
-#[derive(Drop)]
-struct Stuck;
-
-impl Write for Stuck {
-    fn write(&mut self, buf: &[u8]) -> io::Result<usize> {
-        Ok(buf.len())
-    }
-
-    fn flush(&mut self) -> io::Result<()> {
-        Err(Error::from(ErrorKind::Other))
-    }
-}
-
-#[test]
-fn fetches_all(rt: HostRuntime) -> Result<(), Fail> {
-    let mut text = b"vertex a\n".as_slice();
-    let bytes = fetch(rt.alloc(), &mut text)?;
-    assert!(rt; bytes.as_slice() == b"vertex a\n".as_slice());
-    Ok(())
-}
-
-#[test]
-fn unreadable(rt: HostRuntime) {
-    let fetched = fetch(rt.alloc(), &mut Broken { gave: false });
-    assert!(rt; matches!(fetched, Err(FetchFault::Unreadable)));
-}
-
-#[test]
-fn too_large(rt: HostRuntime) {
-    let fetched = fetch(rt.alloc(), &mut Endless);
-    assert!(rt; matches!(fetched, Err(FetchFault::TooLarge)));
-}
-
-#[test]
-fn delivers_all(rt: HostRuntime) -> Result<(), Fail> {
-    let mut out = Vec::new(rt.alloc());
-    deliver(&mut out, b"graph\n")?;
-    assert!(rt; out.as_slice() == b"graph\n".as_slice());
-    Ok(())
-}
-
-#[test]
-fn cannot_write(rt: HostRuntime) {
-    assert!(rt; deliver(&mut Full { room: 0 }, b"graph\n").is_err());
-    assert!(rt; deliver(&mut Full { room: 3 }, b"graph\n").is_err());
-    assert!(rt; deliver(&mut Full { room: 6 }, b"graph\n").is_ok());
-    assert!(rt; deliver(&mut Stuck, b"graph\n").is_err());
-}
-
-#[test]
-fn fault_lines(rt: HostRuntime) {
-    assert!(rt; fault_line(Cause::Words) == ("officer: bad command line", 2));
-    assert!(rt; fault_line(Cause::Graph) == ("officer: cannot read the graph", 3));
-}
-
-fn no_call(rt: &impl Abort, words: &[&str]) {
-    assert!(rt; read_words(words).is_none());
-}
-
-#[test]
-fn calls(rt: HostRuntime) {
-    assert!(rt; read_words(&[]) == Some(Call::Input));
-    assert!(rt; read_words(&["check", "G"]) == Some(Call::File(Command::Check, "G")));
-    assert!(rt; read_words(&["apply", "G", "R"]) == Some(Call::Files(Command::Apply, "G", "R")));
-    assert!(rt; read_words(&["run", "G", "S"]) == Some(Call::Files(Command::Run, "G", "S")));
-    let (right, x, y) = ("r", "a", "c");
-    assert!(rt;
-        read_words(&["share", "G", "r", "a", "c"])
-            == Some(Call::File(Command::Share { right, x, y }, "G"))
-    );
-}
-
-#[test]
-fn no_calls(rt: HostRuntime) {
-    no_call(&rt, &["fly", "G"]);
-    no_call(&rt, &["check"]);
-    no_call(&rt, &["check", "g", "h"]);
-}
-
-// The texts in these tests have `/` for each line feed.
-fn text(alloc: Global, lines: &str) -> Result<Vec<u8>, Fail> {
-    let mut bytes = Vec::new(alloc);
-    for byte in lines.as_bytes() {
-        bytes.push(if *byte == b'/' { b'\n' } else { *byte })?;
-    }
-    Ok(bytes)
-}
-
-pub(crate) fn reports<R: Abort + AllocGlobal>(
-    rt: &R,
-    command: Command,
-    first: &str,
-    second: &str,
-    wanted: &str,
-    status: u8,
-) -> Result<(), Fail> {
-    let first = text(rt.alloc(), first)?;
-    let second = text(rt.alloc(), second)?;
-    let wanted = text(rt.alloc(), wanted)?;
-    let made = report(rt.alloc(), &command, &first, &second)?;
-    assert!(rt; made.bytes.as_slice() == wanted.as_slice());
-    assert!(rt; made.status == status);
-    Ok(())
-}
 
 #[test]
 fn canonical_texts(rt: HostRuntime) -> Result<(), Fail> {
-    reports(&rt, Command::Check, "", "", "", 0)?;
+    reports(&rt, Command::Check, b"", b"", b"", 0)?;
     reports(
         &rt,
         Command::Check,
-        "vertex b/vertex a/edge b a gt/",
-        "",
-        "vertex a/vertex b/edge b a tg/",
+        b"vertex b\nvertex a\nedge b a gt\n",
+        b"",
+        b"vertex a\nvertex b\nedge b a tg\n",
         0,
     )?;
     Ok(())
@@ -178,21 +18,21 @@ fn canonical_texts(rt: HostRuntime) -> Result<(), Fail> {
 
 #[test]
 fn cases(rt: HostRuntime) -> Result<(), Fail> {
-    reports(&rt, Command::Case, "", "", "graph/", 0)?;
+    reports(&rt, Command::Case, b"", b"", b"graph\n", 0)?;
     reports(
         &rt,
         Command::Case,
-        "vertex a/vertex b/vertex c/edge a b t/edge b c rw/rules/take a b c r/remove b c w/",
-        "",
-        "1 done/2 done/graph/vertex a/vertex b/vertex c/edge a b t/edge a c r/edge b c r/",
+        b"vertex a\nvertex b\nvertex c\nedge a b t\nedge b c rw\nrules\ntake a b c r\nremove b c w\n",
+        b"",
+        b"1 done\n2 done\ngraph\nvertex a\nvertex b\nvertex c\nedge a b t\nedge a c r\nedge b c r\n",
         0,
     )?;
     reports(
         &rt,
         Command::Case,
-        "rules/rules/",
-        "",
-        "refused rules line 1 bad-word/",
+        b"rules\nrules\n",
+        b"",
+        b"refused rules line 1 bad-word\n",
         1,
     )?;
     Ok(())
@@ -203,25 +43,25 @@ fn refused_rules(rt: HostRuntime) -> Result<(), Fail> {
     reports(
         &rt,
         Command::Apply,
-        "vertex a/vertex b/",
-        "take a b z r/",
-        "1 refused unknown z/graph/vertex a/vertex b/",
+        b"vertex a\nvertex b\n",
+        b"take a b z r\n",
+        b"1 refused unknown z\ngraph\nvertex a\nvertex b\n",
         1,
     )?;
     reports(
         &rt,
         Command::Apply,
-        "vertex a/vertex b/",
-        "take a b b -/",
-        "1 refused empty/graph/vertex a/vertex b/",
+        b"vertex a\nvertex b\n",
+        b"take a b b -\n",
+        b"1 refused empty\ngraph\nvertex a\nvertex b\n",
         1,
     )?;
     reports(
         &rt,
         Command::Apply,
-        "vertex a/vertex b/",
-        "take a b b r/",
-        "1 refused no-take/graph/vertex a/vertex b/",
+        b"vertex a\nvertex b\n",
+        b"take a b b r\n",
+        b"1 refused no-take\ngraph\nvertex a\nvertex b\n",
         1,
     )?;
     Ok(())
@@ -232,9 +72,9 @@ fn rights_removed(rt: HostRuntime) -> Result<(), Fail> {
     reports(
         &rt,
         Command::Apply,
-        "vertex a/vertex b/edge a b r/",
-        "remove a b w/remove a b r/remove a b -/",
-        "1 done/2 done/3 refused empty/graph/vertex a/vertex b/",
+        b"vertex a\nvertex b\nedge a b r\n",
+        b"remove a b w\nremove a b r\nremove a b -\n",
+        b"1 done\n2 done\n3 refused empty\ngraph\nvertex a\nvertex b\n",
         1,
     )?;
     Ok(())
@@ -245,25 +85,25 @@ fn rights_granted(rt: HostRuntime) -> Result<(), Fail> {
     reports(
         &rt,
         Command::Apply,
-        "vertex a/vertex b/edge a b g/",
-        "grant b a a r/",
-        "1 refused no-grant/graph/vertex a/vertex b/edge a b g/",
+        b"vertex a\nvertex b\nedge a b g\n",
+        b"grant b a a r\n",
+        b"1 refused no-grant\ngraph\nvertex a\nvertex b\nedge a b g\n",
         1,
     )?;
     reports(
         &rt,
         Command::Apply,
-        "vertex a/vertex b/edge a b g/",
-        "grant a b b r/",
-        "1 refused not-held r/graph/vertex a/vertex b/edge a b g/",
+        b"vertex a\nvertex b\nedge a b g\n",
+        b"grant a b b r\n",
+        b"1 refused not-held r\ngraph\nvertex a\nvertex b\nedge a b g\n",
         1,
     )?;
     reports(
         &rt,
         Command::Apply,
-        "vertex a/vertex b/edge a b g/",
-        "grant a b b g/",
-        "1 done/graph/vertex a/vertex b/edge a b g/edge b b g/",
+        b"vertex a\nvertex b\nedge a b g\n",
+        b"grant a b b g\n",
+        b"1 done\ngraph\nvertex a\nvertex b\nedge a b g\nedge b b g\n",
         0,
     )?;
     Ok(())
@@ -274,33 +114,33 @@ fn vertices_created(rt: HostRuntime) -> Result<(), Fail> {
     reports(
         &rt,
         Command::Apply,
-        "vertex a/vertex b/edge a b g/",
-        "create a a -/",
-        "1 refused taken a/graph/vertex a/vertex b/edge a b g/",
+        b"vertex a\nvertex b\nedge a b g\n",
+        b"create a a -\n",
+        b"1 refused taken a\ngraph\nvertex a\nvertex b\nedge a b g\n",
         1,
     )?;
     reports(
         &rt,
         Command::Apply,
-        "vertex a/vertex b/edge a b g/",
-        "create z b -/",
-        "1 refused unknown z/graph/vertex a/vertex b/edge a b g/",
+        b"vertex a\nvertex b\nedge a b g\n",
+        b"create z b -\n",
+        b"1 refused unknown z\ngraph\nvertex a\nvertex b\nedge a b g\n",
         1,
     )?;
     reports(
         &rt,
         Command::Apply,
-        "vertex a/vertex b/edge a b g/",
-        "create a c -/",
-        "1 done/graph/vertex a/vertex b/vertex c/edge a b g/",
+        b"vertex a\nvertex b\nedge a b g\n",
+        b"create a c -\n",
+        b"1 done\ngraph\nvertex a\nvertex b\nvertex c\nedge a b g\n",
         0,
     )?;
     reports(
         &rt,
         Command::Apply,
-        "vertex a/edge a a t/",
-        "take a a a t/",
-        "1 done/graph/vertex a/edge a a t/",
+        b"vertex a\nedge a a t\n",
+        b"take a a a t\n",
+        b"1 done\ngraph\nvertex a\nedge a a t\n",
         0,
     )?;
     Ok(())
@@ -311,9 +151,9 @@ fn a_derivation_applied(rt: HostRuntime) -> Result<(), Fail> {
     reports(
         &rt,
         Command::Apply,
-        "vertex a/vertex b/vertex c/edge a b g/edge b c r/",
-        "# yes 4/create a _0 tg/grant a b _0 g/grant b _0 c r/take a _0 c r/",
-        "2 done/3 done/4 done/5 done/graph/vertex _0/vertex a/vertex b/vertex c/edge _0 c r/edge a _0 tg/edge a b g/edge a c r/edge b _0 g/edge b c r/",
+        b"vertex a\nvertex b\nvertex c\nedge a b g\nedge b c r\n",
+        b"# yes 4\ncreate a _0 tg\ngrant a b _0 g\ngrant b _0 c r\ntake a _0 c r\n",
+        b"2 done\n3 done\n4 done\n5 done\ngraph\nvertex _0\nvertex a\nvertex b\nvertex c\nedge _0 c r\nedge a _0 tg\nedge a b g\nedge a c r\nedge b _0 g\nedge b c r\n",
         0,
     )?;
     Ok(())
@@ -324,41 +164,41 @@ fn words_refused(rt: HostRuntime) -> Result<(), Fail> {
     reports(
         &rt,
         Command::Check,
-        "vertex a/edge a",
-        "",
-        "refused graph line 2 word-count/",
+        b"vertex a\nedge a",
+        b"",
+        b"refused graph line 2 word-count\n",
         1,
     )?;
     reports(
         &rt,
         Command::Check,
-        "node a/",
-        "",
-        "refused graph line 1 bad-word/",
+        b"node a\n",
+        b"",
+        b"refused graph line 1 bad-word\n",
         1,
     )?;
     reports(
         &rt,
         Command::Check,
-        "vertex abcdefghijklmnopq/",
-        "",
-        "refused graph line 1 bad-name/",
+        b"vertex abcdefghijklmnopq\n",
+        b"",
+        b"refused graph line 1 bad-name\n",
         1,
     )?;
     reports(
         &rt,
         Command::Check,
-        "vertex a/edge a a tt/",
-        "",
-        "refused graph line 2 bad-rights/",
+        b"vertex a\nedge a a tt\n",
+        b"",
+        b"refused graph line 2 bad-rights\n",
         1,
     )?;
     reports(
         &rt,
         Command::Check,
-        "edge a b -/",
-        "",
-        "refused graph line 1 bad-rights/",
+        b"edge a b -\n",
+        b"",
+        b"refused graph line 1 bad-rights\n",
         1,
     )?;
     Ok(())
@@ -369,25 +209,25 @@ fn graphs_refused(rt: HostRuntime) -> Result<(), Fail> {
     reports(
         &rt,
         Command::Check,
-        "vertex a/vertex b/edge a b r/edge a b w/",
-        "",
-        "refused graph line 4 duplicate-edge/",
+        b"vertex a\nvertex b\nedge a b r\nedge a b w\n",
+        b"",
+        b"refused graph line 4 duplicate-edge\n",
         1,
     )?;
     reports(
         &rt,
         Command::Check,
-        "vertex a/edge a b r/",
-        "",
-        "refused graph line 2 unknown-vertex/",
+        b"vertex a\nedge a b r\n",
+        b"",
+        b"refused graph line 2 unknown-vertex\n",
         1,
     )?;
     reports(
         &rt,
         Command::Check,
-        "vertex a/vertex a/",
-        "",
-        "refused graph line 2 duplicate-vertex/",
+        b"vertex a\nvertex a\n",
+        b"",
+        b"refused graph line 2 duplicate-vertex\n",
         1,
     )?;
     Ok(())
@@ -402,9 +242,9 @@ fn one_link(rt: HostRuntime) -> Result<(), Fail> {
             x: "a",
             y: "c",
         },
-        "vertex a/vertex b/vertex c/edge a b t/edge b c r/",
-        "",
-        "yes/",
+        b"vertex a\nvertex b\nvertex c\nedge a b t\nedge b c r\n",
+        b"",
+        b"yes\n",
         0,
     )?;
     reports(
@@ -414,9 +254,9 @@ fn one_link(rt: HostRuntime) -> Result<(), Fail> {
             x: "a",
             y: "c",
         },
-        "vertex a/vertex b/vertex c/edge a b t/edge b c r/",
-        "",
-        "# yes 1/take a b c r/",
+        b"vertex a\nvertex b\nvertex c\nedge a b t\nedge b c r\n",
+        b"",
+        b"# yes 1\ntake a b c r\n",
         0,
     )?;
     reports(
@@ -426,9 +266,9 @@ fn one_link(rt: HostRuntime) -> Result<(), Fail> {
             x: "b",
             y: "c",
         },
-        "vertex a/vertex b/vertex c/edge a b t/edge b c r/",
-        "",
-        "# yes 0/",
+        b"vertex a\nvertex b\nvertex c\nedge a b t\nedge b c r\n",
+        b"",
+        b"# yes 0\n",
         0,
     )?;
     Ok(())
@@ -443,9 +283,9 @@ fn through_a_helper(rt: HostRuntime) -> Result<(), Fail> {
             x: "a",
             y: "c",
         },
-        "vertex a/vertex b/vertex c/edge a b g/edge b c r/",
-        "",
-        "yes/",
+        b"vertex a\nvertex b\nvertex c\nedge a b g\nedge b c r\n",
+        b"",
+        b"yes\n",
         0,
     )?;
     reports(
@@ -455,9 +295,9 @@ fn through_a_helper(rt: HostRuntime) -> Result<(), Fail> {
             x: "a",
             y: "c",
         },
-        "vertex a/vertex b/vertex c/edge a b g/edge b c r/",
-        "",
-        "# yes 4/create a _0 tg/grant a b _0 g/grant b _0 c r/take a _0 c r/",
+        b"vertex a\nvertex b\nvertex c\nedge a b g\nedge b c r\n",
+        b"",
+        b"# yes 4\ncreate a _0 tg\ngrant a b _0 g\ngrant b _0 c r\ntake a _0 c r\n",
         0,
     )?;
     Ok(())
@@ -472,9 +312,9 @@ fn over_itself(rt: HostRuntime) -> Result<(), Fail> {
             x: "a",
             y: "b",
         },
-        "vertex a/vertex b/edge a b t/edge b b r/",
-        "",
-        "# yes 1/take a b b r/",
+        b"vertex a\nvertex b\nedge a b t\nedge b b r\n",
+        b"",
+        b"# yes 1\ntake a b b r\n",
         0,
     )?;
     reports(
@@ -484,9 +324,9 @@ fn over_itself(rt: HostRuntime) -> Result<(), Fail> {
             x: "a",
             y: "a",
         },
-        "vertex a/vertex b/edge a b t/edge b a r/",
-        "",
-        "# yes 1/take a b a r/",
+        b"vertex a\nvertex b\nedge a b t\nedge b a r\n",
+        b"",
+        b"# yes 1\ntake a b a r\n",
         0,
     )?;
     Ok(())
@@ -501,9 +341,9 @@ fn not_to_be_shared(rt: HostRuntime) -> Result<(), Fail> {
             x: "a",
             y: "c",
         },
-        "vertex a/vertex b/vertex c/edge a b r/edge b c w/",
-        "",
-        "no/",
+        b"vertex a\nvertex b\nvertex c\nedge a b r\nedge b c w\n",
+        b"",
+        b"no\n",
         0,
     )?;
     reports(
@@ -513,9 +353,9 @@ fn not_to_be_shared(rt: HostRuntime) -> Result<(), Fail> {
             x: "a",
             y: "c",
         },
-        "vertex a/vertex b/vertex c/edge a b r/edge b c w/",
-        "",
-        "# no/",
+        b"vertex a\nvertex b\nvertex c\nedge a b r\nedge b c w\n",
+        b"",
+        b"# no\n",
         0,
     )?;
     reports(
@@ -525,9 +365,9 @@ fn not_to_be_shared(rt: HostRuntime) -> Result<(), Fail> {
             x: "b",
             y: "a",
         },
-        "vertex a/vertex b/vertex c/edge a b t/edge c a r/",
-        "",
-        "no/",
+        b"vertex a\nvertex b\nvertex c\nedge a b t\nedge c a r\n",
+        b"",
+        b"no\n",
         0,
     )?;
     reports(
@@ -537,9 +377,9 @@ fn not_to_be_shared(rt: HostRuntime) -> Result<(), Fail> {
             x: "a",
             y: "a",
         },
-        "vertex a/vertex b/vertex c/edge a b t/edge c a r/",
-        "",
-        "no/",
+        b"vertex a\nvertex b\nvertex c\nedge a b t\nedge c a r\n",
+        b"",
+        b"no\n",
         0,
     )?;
     Ok(())
@@ -554,9 +394,9 @@ fn two_links(rt: HostRuntime) -> Result<(), Fail> {
             x: "a",
             y: "d",
         },
-        "vertex a/vertex b/vertex c/vertex d/edge a b t/edge c b t/edge c d r/",
-        "",
-        "yes/",
+        b"vertex a\nvertex b\nvertex c\nvertex d\nedge a b t\nedge c b t\nedge c d r\n",
+        b"",
+        b"yes\n",
         0,
     )?;
     reports(
@@ -566,9 +406,9 @@ fn two_links(rt: HostRuntime) -> Result<(), Fail> {
             x: "a",
             y: "d",
         },
-        "vertex a/vertex b/vertex c/vertex d/edge a b t/edge c b t/edge c d r/",
-        "",
-        "# yes 5/create b _0 tg/take c b _0 g/grant c _0 d r/take b _0 d r/take a b d r/",
+        b"vertex a\nvertex b\nvertex c\nvertex d\nedge a b t\nedge c b t\nedge c d r\n",
+        b"",
+        b"# yes 5\ncreate b _0 tg\ntake c b _0 g\ngrant c _0 d r\ntake b _0 d r\ntake a b d r\n",
         0,
     )?;
     Ok(())
@@ -583,9 +423,9 @@ fn two_helpers(rt: HostRuntime) -> Result<(), Fail> {
             x: "a",
             y: "d",
         },
-        "vertex _0/vertex _2/vertex a/vertex b/vertex c/vertex d/edge a b g/edge b c g/edge c d r/",
-        "",
-        "# yes 8/create b _1 tg/grant b c _1 g/grant c _1 d r/take b _1 d r/create a _3 tg/grant a b _3 g/grant b _3 d r/take a _3 d r/",
+        b"vertex _0\nvertex _2\nvertex a\nvertex b\nvertex c\nvertex d\nedge a b g\nedge b c g\nedge c d r\n",
+        b"",
+        b"# yes 8\ncreate b _1 tg\ngrant b c _1 g\ngrant c _1 d r\ntake b _1 d r\ncreate a _3 tg\ngrant a b _3 g\ngrant b _3 d r\ntake a _3 d r\n",
         0,
     )?;
     Ok(())
@@ -600,9 +440,9 @@ fn questions_refused(rt: HostRuntime) -> Result<(), Fail> {
             x: "a",
             y: "c",
         },
-        "vertex a/vertex b/vertex c/edge a b t/edge b c r/",
-        "",
-        "refused bad-right/",
+        b"vertex a\nvertex b\nvertex c\nedge a b t\nedge b c r\n",
+        b"",
+        b"refused bad-right\n",
         1,
     )?;
     reports(
@@ -612,9 +452,9 @@ fn questions_refused(rt: HostRuntime) -> Result<(), Fail> {
             x: "A",
             y: "c",
         },
-        "vertex a/vertex b/vertex c/edge a b t/edge b c r/",
-        "",
-        "refused bad-name/",
+        b"vertex a\nvertex b\nvertex c\nedge a b t\nedge b c r\n",
+        b"",
+        b"refused bad-name\n",
         1,
     )?;
     reports(
@@ -624,9 +464,9 @@ fn questions_refused(rt: HostRuntime) -> Result<(), Fail> {
             x: "a",
             y: "z",
         },
-        "vertex a/vertex b/vertex c/edge a b t/edge b c r/",
-        "",
-        "refused unknown z/",
+        b"vertex a\nvertex b\nvertex c\nedge a b t\nedge b c r\n",
+        b"",
+        b"refused unknown z\n",
         1,
     )?;
     Ok(())
@@ -635,15 +475,15 @@ fn questions_refused(rt: HostRuntime) -> Result<(), Fail> {
 #[test]
 fn islands(rt: HostRuntime) -> Result<(), Fail> {
     let graph =
-        "vertex a/vertex b/vertex c/vertex d/vertex e/edge a b t/edge b c r/edge d e g/edge e a r/";
-    reports(&rt, Command::Islands, graph, "", "a b/c/d e/", 0)?;
-    reports(&rt, Command::Islands, "", "", "", 0)?;
+        b"vertex a\nvertex b\nvertex c\nvertex d\nvertex e\nedge a b t\nedge b c r\nedge d e g\nedge e a r\n";
+    reports(&rt, Command::Islands, graph, b"", b"a b\nc\nd e\n", 0)?;
+    reports(&rt, Command::Islands, b"", b"", b"", 0)?;
     reports(
         &rt,
         Command::Islands,
-        "vertex b/vertex a/vertex b/",
-        "",
-        "refused graph line 3 duplicate-vertex/",
+        b"vertex b\nvertex a\nvertex b\n",
+        b"",
+        b"refused graph line 3 duplicate-vertex\n",
         1,
     )?;
     Ok(())

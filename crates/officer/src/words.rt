@@ -1,7 +1,7 @@
 //! What the command line asks for.
 ghost use Rattle.std.specs.Prelude.{◌≡◌, map};
 ghost use Rattle.std.specs.Option.{option_map};
-ghost use Rattle.officer.specs.Calls.{call_of, call_words, command_words, graph_command, text_command, question};
+ghost use Rattle.officer.specs.Calls.{call_of, call_words, command_of, command_words, graph_command, text_command, question};
 
 /// A report to make, with the words of the command line as they were given.
 #[derive(Clone, Copy, PartialEq, Eq, Debug)]
@@ -39,6 +39,18 @@ pub enum Call<'a> {
     File(Command<'a>, &'a str),
     /// The graph and a second text stand in files.
     Files(Command<'a>, &'a str, &'a str),
+}
+
+impl<'a> Call<'a> {
+    /// The command whose report is asked for.
+    pub fn command(&self) -> Command<'a>
+        ensures { command_words result ≡ command_of (call_words self.now) }
+    {
+        match *self {
+            Call::Input => Command::Case,
+            Call::File(command, _) | Call::Files(command, _, _) => command,
+        }
+    }
 }
 
 fn graph_command(name: &str) -> Option<Command<'static>>

@@ -1,0 +1,400 @@
+use crate::call::run;
+use crate::deliver::{DeliverFault, deliver};
+use crate::fault::{Cause, fault_line};
+use crate::fetch::{FetchFault, MOST_BYTES, fetch};
+use crate::surroundings::{Process, Surroundings, WordsFault};
+use crate::words::{Call, Command, read_words};
+use std::alloc::{AllocError, Global};
+use std::io::{Error, ErrorKind, Read, Write};
+use std::process::Abort;
+use std::test::Fail;
+use std::{env, fs, io};
+
+// Gives three bytes, and fails from then on.
+#[derive(Drop)]
+struct Broken {
+    gave: bool,
+}
+
+impl Read for Broken {
+    fn read(&mut self, buf: &mut [u8]) -> io::Result<usize> {
+        if self.gave || buf.len() < 3 {
+            return Err(Error::from(ErrorKind::Other));
+        }
+        self.gave = true;
+        Ok(3)
+    }
+}
+
+// Fills each buffer, and never ends.
+#[derive(Drop)]
+struct Endless;
+
+impl Read for Endless {
+    fn read(&mut self, buf: &mut [u8]) -> io::Result<usize> {
+        Ok(buf.len())
+    }
+}
+
+// Gives so many bytes, as many at once as it is asked for.
+#[derive(Drop)]
+struct Zeros {
+    left: usize,
+}
+
+impl Read for Zeros {
+    fn read(&mut self, buf: &mut [u8]) -> io::Result<usize> {
+        let count = self.left.min(buf.len());
+        self.left -= count;
+        Ok(count)
+    }
+}
+
+// Gives a text, and is interrupted before each read of it.
+#[derive(Drop)]
+struct Interrupted<'a> {
+    text: &'a [u8],
+    again: bool,
+}
+
+impl Read for Interrupted<'_> {
+    fn read(&mut self, buf: &mut [u8]) -> io::Result<usize> {
+        self.again = !self.again;
+        if self.again {
+            return Err(Error::from(ErrorKind::Interrupted));
+        }
+        self.text.read(buf)
+    }
+}
+
+// Takes so many bytes in all, and fails where it would take none.
+#[derive(Drop)]
+struct Full {
+    room: usize,
+}
+
+impl Write for Full {
+    fn write(&mut self, buf: &[u8]) -> io::Result<usize> {
+        let count = self.room.min(buf.len());
+        if count == 0 {
+            return Err(Error::from(ErrorKind::Other));
+        }
+        self.room -= count;
+        Ok(count)
+    }
+
+    fn flush(&mut self) -> io::Result<()> {
+        Ok(())
+    }
+}
+
+// Takes all, and is not to be flushed.
+#[derive(Drop)]
+struct Stuck;
+
+impl Write for Stuck {
+    fn write(&mut self, buf: &[u8]) -> io::Result<usize> {
+        Ok(buf.len())
+    }
+
+    fn flush(&mut self) -> io::Result<()> {
+        Err(Error::from(ErrorKind::Other))
+    }
+}
+
+#[test]
+fn fetches_all(rt: HostRuntime) -> Result<(), Fail> {
+    let mut text = b"vertex a\n".as_slice();
+    let bytes = fetch(rt.alloc(), &mut text)?;
+    assert!(rt; bytes.as_slice() == b"vertex a\n".as_slice());
+    Ok(())
+}
+
+#[test]
+fn unreadable(rt: HostRuntime) {
+    let fetched = fetch(rt.alloc(), &mut Broken { gave: false });
+    assert!(rt; matches!(fetched, Err(FetchFault::Unreadable)));
+}
+
+#[test]
+fn too_large(rt: HostRuntime) {
+    let fetched = fetch(rt.alloc(), &mut Endless);
+    assert!(rt; matches!(fetched, Err(FetchFault::TooLarge)));
+}
+
+#[test]
+fn as_large_as_may_be(rt: HostRuntime) -> Result<(), Fail> {
+    let bytes = fetch(rt.alloc(), &mut Zeros { left: MOST_BYTES })?;
+    assert!(rt; bytes.len() == 67_108_864);
+    Ok(())
+}
+
+#[test]
+fn one_byte_too_large(rt: HostRuntime) {
+    let fetched = fetch(rt.alloc(), &mut Zeros { left: 67_108_865 });
+    assert!(rt; matches!(fetched, Err(FetchFault::TooLarge)));
+}
+
+#[test]
+fn interrupted_reads(rt: HostRuntime) -> Result<(), Fail> {
+    let text = b"vertex a\n".as_slice();
+    let bytes = fetch(rt.alloc(), &mut Interrupted { text, again: false })?;
+    assert!(rt; bytes.as_slice() == text);
+    Ok(())
+}
+
+#[test]
+fn delivers_all(rt: HostRuntime) -> Result<(), Fail> {
+    let mut out = Vec::new(rt.alloc());
+    deliver(&mut out, b"graph\n")?;
+    assert!(rt; out.as_slice() == b"graph\n".as_slice());
+    Ok(())
+}
+
+#[test]
+fn cannot_write(rt: HostRuntime) {
+    assert!(rt; deliver(&mut Full { room: 0 }, b"graph\n").is_err());
+    assert!(rt; deliver(&mut Full { room: 3 }, b"graph\n").is_err());
+    assert!(rt; deliver(&mut Full { room: 6 }, b"graph\n").is_ok());
+    assert!(rt; deliver(&mut Stuck, b"graph\n").is_err());
+}
+
+fn says(rt: &impl Abort, cause: Cause, line: &str, status: u8) {
+    assert!(rt; fault_line(cause) == (line, status));
+}
+
+#[test]
+fn fault_lines(rt: HostRuntime) {
+    says(&rt, Cause::Graph, "officer: cannot read the graph", 3);
+    says(
+        &rt,
+        Cause::Second,
+        "officer: cannot read the second file",
+        3,
+    );
+    says(&rt, Cause::TooLarge, "officer: input too large", 3);
+    says(&rt, Cause::Memory, "officer: no memory", 3);
+    says(&rt, Cause::Write, "officer: cannot write", 3);
+    says(&rt, Cause::Words, "officer: bad command line", 2);
+}
+
+fn no_call(rt: &impl Abort, words: &[&str]) {
+    assert!(rt; read_words(words).is_none());
+}
+
+#[test]
+fn calls(rt: HostRuntime) {
+    assert!(rt; read_words(&[]) == Some(Call::Input));
+    assert!(rt; read_words(&["check", "G"]) == Some(Call::File(Command::Check, "G")));
+    assert!(rt; read_words(&["apply", "G", "R"]) == Some(Call::Files(Command::Apply, "G", "R")));
+    assert!(rt; read_words(&["run", "G", "S"]) == Some(Call::Files(Command::Run, "G", "S")));
+    let (right, x, y) = ("r", "a", "c");
+    assert!(rt;
+        read_words(&["share", "G", "r", "a", "c"])
+            == Some(Call::File(Command::Share { right, x, y }, "G"))
+    );
+}
+
+#[test]
+fn no_calls(rt: HostRuntime) {
+    no_call(&rt, &["fly", "G"]);
+    no_call(&rt, &["check"]);
+    no_call(&rt, &["check", "g", "h"]);
+}
+
+// What a question to a desk gives.
+#[derive(Clone, Copy)]
+enum Held<T> {
+    Given(T),
+    Unreadable,
+    TooLarge,
+    Memory,
+}
+
+// The bytes of a text, or why they do not come.
+fn held_bytes(alloc: Global, text: Held<&[u8]>) -> Result<Vec<u8>, FetchFault> {
+    match text {
+        Held::Given(text) => {
+            let bytes = Vec::from_slice(alloc, text)?;
+            Ok(bytes)
+        }
+        Held::Unreadable => Err(FetchFault::Unreadable),
+        Held::TooLarge => Err(FetchFault::TooLarge),
+        Held::Memory => Err(FetchFault::Memory),
+    }
+}
+
+fn held_words(alloc: Global, words: &[&str]) -> Result<Vec<String>, AllocError> {
+    let mut strings = Vec::new(alloc);
+    for word in words {
+        strings.push(String::from_str(alloc, word)?)?;
+    }
+    Ok(strings)
+}
+
+// Surroundings in memory, in which each question may fail. The files are `g` and `h`. It keeps a letter for each
+// question: `w` for the words, `i` for standard input, a file's name, and `p` for the output.
+#[derive(Drop)]
+struct Desk<'a> {
+    words: Held<&'a [&'a str]>,
+    input: Held<&'a [u8]>,
+    graph: Held<&'a [u8]>,
+    second: Held<&'a [u8]>,
+    takes: bool,
+    printed: Vec<u8>,
+    asked: Vec<u8>,
+}
+
+impl Desk<'_> {
+    // Keeps a letter; there is room for it, or it is left out.
+    fn keep(&mut self, letter: u8) {
+        let _ = self.asked.push(letter);
+    }
+}
+
+impl Surroundings for Desk<'_> {
+    fn words(&mut self, alloc: Global) -> Result<Vec<String>, WordsFault> {
+        self.keep(b'w');
+        match self.words {
+            Held::Given(words) => match held_words(alloc, words) {
+                Ok(words) => Ok(words),
+                Err(AllocError) => Err(WordsFault::Memory),
+            },
+            Held::Unreadable | Held::TooLarge => Err(WordsFault::Unreadable),
+            Held::Memory => Err(WordsFault::Memory),
+        }
+    }
+
+    fn input(&mut self, alloc: Global) -> Result<Vec<u8>, FetchFault> {
+        self.keep(b'i');
+        held_bytes(alloc, self.input)
+    }
+
+    fn file(&mut self, alloc: Global, path: &str) -> Result<Vec<u8>, FetchFault> {
+        let text = match path {
+            "g" => self.graph,
+            "h" => self.second,
+            _ => Held::Unreadable,
+        };
+        for letter in path.as_bytes() {
+            self.keep(*letter);
+        }
+        held_bytes(alloc, text)
+    }
+
+    fn print(&mut self, bytes: &[u8]) -> Result<(), DeliverFault> {
+        self.keep(b'p');
+        if !self.takes || self.printed.extend_from_slice(bytes).is_err() {
+            return Err(DeliverFault::CannotWrite);
+        }
+        Ok(())
+    }
+}
+
+// A desk with a graph, rules for it and a case, at which these words are given.
+fn desk_for<'a>(alloc: Global, words: &'a [&'a str]) -> Desk<'a> {
+    Desk {
+        words: Held::Given(words),
+        input: Held::Given(b"vertex b\nvertex a\nrules\ntake a b b r\n"),
+        graph: Held::Given(b"vertex b\nvertex a\n"),
+        second: Held::Given(b"take a b b r\n"),
+        takes: true,
+        printed: Vec::new(alloc),
+        asked: Vec::new(alloc),
+    }
+}
+
+// The program at a desk asks these questions, prints these bytes and ends with this status.
+fn prints<R: Abort + AllocGlobal>(
+    rt: &R,
+    words: &[&str],
+    asked: &[u8],
+    printed: &[u8],
+    status: u8,
+) {
+    let mut desk = desk_for(rt.alloc(), words);
+    assert!(rt; run(rt.alloc(), &mut desk) == Ok(status));
+    assert!(rt; desk.asked.as_slice() == asked);
+    assert!(rt; desk.printed.as_slice() == printed);
+}
+
+// The program at a desk asks these questions and ends for this cause, and nothing is printed.
+fn stops<R: Abort + AllocGlobal>(rt: &R, mut desk: Desk<'_>, asked: &[u8], cause: Cause) {
+    assert!(rt; run(rt.alloc(), &mut desk) == Err(cause));
+    assert!(rt; desk.asked.as_slice() == asked);
+    assert!(rt; desk.printed.is_empty());
+}
+
+#[test]
+fn printed_reports(rt: HostRuntime) {
+    let graph = b"vertex a\nvertex b\n".as_slice();
+    prints(&rt, &["check", "g"], b"wgp", graph, 0);
+    let refused = b"1 refused no-take\ngraph\nvertex a\nvertex b\n".as_slice();
+    prints(&rt, &["apply", "g", "h"], b"wghp", refused, 1);
+    prints(&rt, &[], b"wip", refused, 1);
+}
+
+#[test]
+fn words_that_stop(rt: HostRuntime) {
+    stops(&rt, desk_for(rt.alloc(), &["fly", "g"]), b"w", Cause::Words);
+    let mut unreadable = desk_for(rt.alloc(), &[]);
+    unreadable.words = Held::Unreadable;
+    stops(&rt, unreadable, b"w", Cause::Words);
+    let mut memory = desk_for(rt.alloc(), &[]);
+    memory.words = Held::Memory;
+    stops(&rt, memory, b"w", Cause::Memory);
+}
+
+#[test]
+fn graphs_that_stop(rt: HostRuntime) {
+    let words = ["apply", "g", "h"];
+    let mut neither = desk_for(rt.alloc(), &words);
+    neither.graph = Held::Unreadable;
+    neither.second = Held::Unreadable;
+    stops(&rt, neither, b"wg", Cause::Graph);
+    let mut large = desk_for(rt.alloc(), &words);
+    large.graph = Held::TooLarge;
+    stops(&rt, large, b"wg", Cause::TooLarge);
+    let mut memory = desk_for(rt.alloc(), &words);
+    memory.graph = Held::Memory;
+    stops(&rt, memory, b"wg", Cause::Memory);
+}
+
+#[test]
+fn second_files_that_stop(rt: HostRuntime) {
+    let words = ["run", "g", "h"];
+    let mut unreadable = desk_for(rt.alloc(), &words);
+    unreadable.second = Held::Unreadable;
+    stops(&rt, unreadable, b"wgh", Cause::Second);
+    let mut large = desk_for(rt.alloc(), &words);
+    large.second = Held::TooLarge;
+    stops(&rt, large, b"wgh", Cause::TooLarge);
+}
+
+#[test]
+fn an_input_that_stops(rt: HostRuntime) {
+    let mut unreadable = desk_for(rt.alloc(), &[]);
+    unreadable.input = Held::Unreadable;
+    stops(&rt, unreadable, b"wi", Cause::Graph);
+}
+
+#[test]
+fn an_output_that_stops(rt: HostRuntime) {
+    let mut full = desk_for(rt.alloc(), &["islands", "g"]);
+    full.takes = false;
+    stops(&rt, full, b"wgp", Cause::Write);
+}
+
+// The surroundings of the system: a file that is there, and one that is not.
+#[test]
+fn files_of_the_system(rt: HostRuntime) -> Result<(), Fail> {
+    let mut path = env::temp_dir(&rt)?;
+    path.push("gaivunde_officer_test.graph")?;
+    fs::write(&rt, path.as_path(), b"vertex a\n".as_slice())?;
+    let read = Process::new(&rt).file(rt.alloc(), path.as_str());
+    fs::remove_file(&rt, path.as_path())?;
+    assert!(rt; read?.as_slice() == b"vertex a\n".as_slice());
+    let gone = Process::new(&rt).file(rt.alloc(), path.as_str());
+    assert!(rt; matches!(gone, Err(FetchFault::Unreadable)));
+    Ok(())
+}
