@@ -14,7 +14,8 @@ use Rattle.tg_store.specs.declared.events.HallFault.{HallFault}
 use Rattle.tg_store.specs.declared.events.HallFault.TheVariants as hall
 use Rattle.tg_store.specs.declared.events.HallReply.{HallReply}
 use Rattle.tg_store.specs.declared.events.HallReply.TheVariants as reply
-use Rattle.tg_store.specs.Worlds.{World, most_cells, most_seats}
+use Rattle.tg_graph.specs.Limits.{most_cells, most_seats}
+use Rattle.tg_store.specs.Worlds.{World}
 use Rattle.tg_store.specs.Acts.{IsStageableAct}
 use Rattle.officer.specs.declared.outcome.Report.{Report}
 use Rattle.officer.specs.declared.outcome.Halt.{Halt}
