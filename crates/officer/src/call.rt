@@ -1,17 +1,19 @@
 //! What the program does for its command line.
 ghost use Rattle.std.specs.Prelude.{◌≡◌, [], IfOk, Ok, map, string_bytes};
-ghost use Rattle.officer.specs.Calls.{call_words};
-ghost use Rattle.officer.specs.Dealings.{Deals, Reads, ReadsBoth, Prints, AnswersCall, IsRun, and_text, bytes_of, text_or, seen};
+ghost use Rattle.officer.specs.Calls.{call_words, command_of};
+ghost use Rattle.officer.specs.Dealings.{Deals, Reads, ReadsBoth, Prints, IsReportOf, AnswersCall, IsRun, and_text, bytes_of, text_or, seen};
 ghost use Rattle.officer.specs.Outcomes.{report_text};
 
 use crate::deliver::DeliverFault;
 use crate::fault::Cause;
 use crate::fetch::FetchFault;
 use crate::outcome::Report;
+use crate::race::race;
 use crate::report::report;
 use crate::surroundings::{Surroundings, WordsFault};
 use crate::words::{Call, read_words};
 use std::alloc::{AllocError, Global};
+use std::thread::Threads;
 
 // The texts of a command; where it has one text, the second is empty.
 #[derive(Drop)]
@@ -82,6 +84,7 @@ fn texts_of<S: Surroundings>(
         Call::Input => alone(alloc, surroundings.input(alloc)),
         Call::File(_, graph) => alone(alloc, surroundings.file(alloc, graph)),
         Call::Files(_, graph, second) => both(alloc, surroundings, graph, second),
+        Call::Race(graph, script) => both(alloc, surroundings, graph, script),
     }
 }
 
@@ -95,15 +98,39 @@ fn print<S: Surroundings>(surroundings: &mut S, report: &Report) -> Result<u8, C
     }
 }
 
+// The report of a call for its texts.
+fn report_of<R: Threads + Sync + AllocGlobal>(
+    rt: &R,
+    call: &Call,
+    texts: &Texts,
+) -> Result<Report, AllocError>
+    ensures { IfOk result (λ report. IsReportOf (command_of (call_words call.now)) texts.now.first.items texts.now.second.items (report_text report)) }
+{
+    match call.command() {
+        Some(command) => {
+            let made = report(rt.alloc(), &command, &texts.first, &texts.second)?;
+            Ok(made)
+        }
+        None => {
+            let made = race(rt, &texts.first, &texts.second)?;
+            Ok(made)
+        }
+    }
+}
+
 // Reads the texts of a call, and prints its report.
-fn answer<S: Surroundings>(alloc: Global, surroundings: &mut S, call: &Call) -> Result<u8, Cause>
+fn answer<R: Threads + Sync + AllocGlobal, S: Surroundings>(
+    rt: &R,
+    surroundings: &mut S,
+    call: &Call,
+) -> Result<u8, Cause>
     ensures { Deals (S.dealings surroundings.old) (S.dealings surroundings.new) (AnswersCall (call_words call.now) result) }
 {
-    let texts = match texts_of(alloc, surroundings, call) {
+    let texts = match texts_of(rt.alloc(), surroundings, call) {
         Ok(texts) => texts,
         Err(cause) => return Err(cause),
     };
-    match report(alloc, &call.command(), &texts.first, &texts.second) {
+    match report_of(rt, call, &texts) {
         Ok(report) => print(surroundings, &report),
         Err(AllocError) => Err(Cause::Memory),
     }
@@ -124,19 +151,22 @@ fn slices<'a>(alloc: Global, words: &'a [String]) -> Result<Vec<&'a str>, AllocE
 ///
 /// The words come first, then the graph, and a second file only once the graph is there. An error means that one of
 /// these did not come, that there was no memory, or that the output did not take the report.
-pub fn run<S: Surroundings>(alloc: Global, surroundings: &mut S) -> Result<u8, Cause>
+pub fn run<R: Threads + Sync + AllocGlobal, S: Surroundings>(
+    rt: &R,
+    surroundings: &mut S,
+) -> Result<u8, Cause>
     ensures { Deals (S.dealings surroundings.old) (S.dealings surroundings.new) (IsRun result) }
 {
-    let words = match surroundings.words(alloc) {
+    let words = match surroundings.words(rt.alloc()) {
         Ok(words) => words,
         Err(WordsFault::Unreadable) => return Err(Cause::Words),
         Err(WordsFault::Memory) => return Err(Cause::Memory),
     };
-    let Ok(words) = slices(alloc, &words) else {
+    let Ok(words) = slices(rt.alloc(), &words) else {
         return Err(Cause::Memory);
     };
     match read_words(&words) {
-        Some(call) => answer(alloc, surroundings, &call),
+        Some(call) => answer(rt, surroundings, &call),
         None => Err(Cause::Words),
     }
 }
