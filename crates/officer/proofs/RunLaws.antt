@@ -1,15 +1,14 @@
 -- A run that ends with a status has printed the report.
-use Rattle.std.proofs.Common.{◌≡◌, ◌⊎◌, inl, inr, ℕ, List, [], ◌∷◌, ◌++◌, refl, sym, ◌∙◌, ap, subst}
+use Rattle.std.proofs.Common.{◌≡◌, inl, inr, ℕ, List, [], ◌∷◌, ◌++◌, refl, sym, ◌∙◌, ap, subst}
 use Rattle.std.specs.Prelude.{⊤, Option, None, Some, Result, Ok, Err}
 use Rattle.officer.specs.declared.fault.Cause.{Cause}
 use Rattle.officer.specs.declared.fault.Cause.TheVariants.{Graph, Second}
 use Rattle.officer.specs.declared.deliver.DeliverFault.{DeliverFault}
 use Rattle.officer.specs.declared.fetch.FetchFault.{FetchFault}
 use Rattle.officer.specs.declared.surroundings.WordsFault.{WordsFault}
-use Rattle.officer.specs.Calls.{CallWords, CommandWords, Input as input, File as file, Files as files, call_of, command_of}
+use Rattle.officer.specs.Calls.{CallWords, Input as input, File as file, Files as files, call_of, command_of}
 use Rattle.officer.specs.Readings.{ReportText}
-use Rattle.officer.specs.Reports.{IsReport}
-use Rattle.officer.specs.Dealings.{Dealing, Words, Input, File, Print, text_or, and_text, ReadsGraph, ReadsSecond, GoesOn, ReadsBoth, Reads, end_of_print, Prints, PrintsReport, Answers, AnswersCall, AnswersForm, AnswersWords, IsRun}
+use Rattle.officer.specs.Dealings.{Dealing, Words, Input, File, Print, text_or, and_text, GoesOn, Reads, end_of_print, Answers, AnswersForm, AnswersWords}
 use Rattle.officer.specs.RunLaws.{texts_given, HasPrinted, RunsPrintReports}
 
 ok_err : {A B : Type 0} (E : Type 0) (x : B) (y : E) → ◌≡◌ {A = Result B E} (Ok x) (Err y) → A
