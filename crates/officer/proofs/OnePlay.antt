@@ -1,9 +1,8 @@
 -- A script has one play: each answer that is no want of memory, and the world after it, follow from the world before it.
-use Rattle.std.proofs.Common.{◌≡◌, ◌⊎◌, inl, inr, ℕ, ◌+◌, ◌-◌, ◌<◌, ◌==◌, ◌++◌, Bool, true, false, MatchBool, List, [], ◌∷◌, length, map, replicate, Option, None, Some, MatchOption, refl, sym, ap, subst, ◌∙◌, arith}
-use Rattle.std.specs.Prelude.{codes, slice_get, slice_set, take, if◌then◌else◌}
+use Rattle.std.proofs.Common.{◌≡◌, ◌⊎◌, inl, inr, ℕ, ◌<◌, ◌++◌, Bool, true, false, MatchBool, List, [], ◌∷◌, length, map, replicate, Option, None, Some, MatchOption, refl, sym, ap, subst, ◌∙◌, arith}
+use Rattle.std.specs.Prelude.{codes, slice_get, take}
 use Rattle.std.proofs.lemmas.Bool.{false≢true}
 use Rattle.tg_graph.specs.declared.right_sets.Right.{Right}
-use Rattle.tg_graph.specs.declared.rules.Refusal.{Refusal}
 use Rattle.tg_graph.specs.declared.session.Act.{Act}
 use Rattle.tg_graph.specs.declared.session.Act.TheVariants as act
 use Rattle.tg_graph.specs.declared.session.Reply.{Reply}
@@ -21,15 +20,15 @@ use Rattle.tg_store.specs.declared.events.Event.TheVariants.{Begin, Learn, Stage
 use Rattle.tg_store.specs.declared.events.HallReply.{HallReply}
 use Rattle.tg_store.specs.declared.events.HallReply.TheVariants as reply
 use Rattle.tg_store.specs.declared.events.HallFault.TheVariants.{NoSeat, AlreadyOpen, NotOpen, Changed, Crowded, JournalFull, Memory}
-use Rattle.tg_store.specs.Answers.{IsAnswer, after_steps, unknown_of_two}
+use Rattle.tg_store.specs.Answers.{IsAnswer, after_steps}
 use Rattle.tg_store.specs.Touches.{IsClear, IsSpoilt, IsOvercrowded}
 use Rattle.tg_text.specs.ScriptText.{ScriptOf}
 use Rattle.tg_text.specs.Canonical.{line_of, canonical_text}
 use Rattle.tg_store.specs.Histories.{replay}
-use Rattle.tg_store.specs.Worlds.{World, opened, SeatView, seat_of, seat_in, rests_on, with_seat, with_session, one_further, Opens, Begins, TakesIn, Learns, Says, Stages, Aborts, Joins, Puts, Moves, Happens, Run}
+use Rattle.tg_store.specs.Worlds.{World, opened, SeatView, seat_of, seat_in, rests_on, with_seat, with_session, one_further, Opens, TakesIn, Learns, Says, Joins, Moves, Happens, Run}
 use Rattle.tg_store.specs.Acts.{is_learned, is_free, Repeats, OpensAfter, CatchesUp, Acts}
 use Rattle.officer.specs.Readings.{ReportText}
-use Rattle.officer.specs.Runs.{outcome_words, outcome_line, IsOutcome, Plays, IsPlayed}
+use Rattle.officer.specs.Runs.{outcome_words, outcome_line, Plays, IsPlayed}
 use Rattle.officer.proofs.ActLemmas.{happens_keeps, run_keeps, acts_keep}
 
 -- an answer that is no want of memory

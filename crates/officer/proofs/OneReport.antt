@@ -5,11 +5,11 @@ use Rattle.std.specs.List.{flat_map}
 use Rattle.tg_graph.specs.Graphs.{Name, ProtectionGraph, has_vertex}
 use Rattle.tg_text.specs.Canonical.{in_name_order}
 use Rattle.tg_text.proofs.NameOrder.{among, among-in_order, same_name-refl}
-use Rattle.officer.specs.Calls.{CommandWords, Case, Check, Apply, Islands, Share, Derive, Run}
+use Rattle.officer.specs.Calls.{Case, Check, Apply, Islands, Share, Derive, Run}
 use Rattle.officer.specs.Readings.{ReportText, Question, graph_in, question_in}
-use Rattle.officer.specs.Reports.{IsReport, IsFor, Is, IsAnswer, IsDerived, TellsIslands, AreIslandLines, island_line, islands_text, check_report, apply_report, graph_part, rules_part}
+use Rattle.officer.specs.Reports.{IsFor, Is, IsAnswer, IsDerived, TellsIslands, AreIslandLines, island_line, islands_text, check_report, apply_report, graph_part, rules_part}
 use Rattle.officer.specs.Runs.{playing_in, IsPlayed}
-use Rattle.officer.specs.ReportLaws.{FindsRules, GivesRules, ThereIsOneReport}
+use Rattle.officer.specs.ReportLaws.{FindsRules, ThereIsOneReport}
 use Rattle.officer.proofs.OnePlay.{played_one}
 
 -- ---- tests that agree

@@ -1,6 +1,6 @@
 -- The graph of a text has no more vertices than a text may name.
 use Rattle.std.proofs.Common.{◌≡◌, ℕ, ◌+◌, ◌<◌, ◌≤◌, Bool, true, false, cond, List, [], ◌∷◌, length, Result, Ok, Err, refl, ap, arith, length-append}
-use Rattle.std.specs.Prelude.{nat_le, nat_lt, codes, not, ◌&&◌}
+use Rattle.std.specs.Prelude.{nat_le, codes, not, ◌&&◌}
 use Rattle.std.proofs.lemmas.Bool.Decides.{nat_tests}
 use Rattle.tg_graph.specs.Graphs.{Name, ProtectionGraph, has_vertex}
 use Rattle.tg_graph.specs.Limits.{most_vertices}
