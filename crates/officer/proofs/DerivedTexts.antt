@@ -10,6 +10,7 @@ use Rattle.tg_graph.specs.Rules.{after}
 use Rattle.tg_graph.specs.RuleWords.{IsRule}
 use Rattle.tg_graph.specs.RuleLists.{AllAccepted, after_all}
 use Rattle.tg_graph.proofs.Digits.{name-decimal}
+use Rattle.tg_text.specs.Limits.{most_line_bytes}
 use Rattle.tg_text.specs.Words.{Word}
 use Rattle.tg_text.specs.Spelling.{spaced}
 use Rattle.tg_text.specs.RuleText.{rules_text}
@@ -53,7 +54,7 @@ number_word n h =
 plain_header : (n : ℕ) → n ≤ 4 * most_vertices → AllByRecursion IsPlainWord (header n)
 plain_header n h = (word_from_test (codes "#") refl refl, (word_from_test (codes "yes") refl refl, (number_word n h, tt)))
 
-short_header : (n : ℕ) → n ≤ 4 * most_vertices → length (spaced (header n)) ≤ 256
+short_header : (n : ℕ) → n ≤ 4 * most_vertices → length (spaced (header n)) ≤ most_line_bytes
 short_header n h =
     let within = (name-decimal n (omega (arith, h))).within in
     omega (arith, length-more (codes "#") (codes "yes") (decimal n ∷ []), length-more (codes "yes") (decimal n) [], within)

@@ -218,7 +218,7 @@ fn store_for(
     match Store::start(alloc, graph, script.cells, script.seats) {
         Ok(opened) => Ok(opened),
         Err(StoreFault::Memory) => Err(AllocError),
-        Err(_) => unreachable!(),
+        Err(StoreFault::TooManyVertices | StoreFault::Cells | StoreFault::Seats) => unreachable!(),
     }
 }
 
