@@ -21,6 +21,7 @@ import sys
 import tempfile
 
 LETTERS = "tgrwe"
+MOST_VERTICES = 1024
 
 
 def vertices(count):
@@ -99,6 +100,8 @@ class Model:
                 return f"refused unknown {x}"
             if n in self.names:
                 return f"refused taken {n}"
+            if len(self.names) >= MOST_VERTICES:
+                return "refused full"
             self.names.add(n)
             self.add(x, n, set(rights) - {"-"})
             return "done"
@@ -182,7 +185,7 @@ def races(chance):
     """Title, the graph's names and edges, seats, and the script's lines."""
     yield "sparse, seldom the same vertices", vertices(1024), sparse(1024, 4096, chance), 16, script(16, 4096, 1024, chance)
     yield "sparse, often the same vertices", vertices(256), sparse(256, 4096, chance), 16, script(16, 4096, 48, chance)
-    yield "dense, seldom the same vertices", vertices(512), dense(512), 16, script(16, 4096, 512, chance)
+    yield "dense, seldom the same vertices", vertices(256), dense(256), 16, script(16, 4096, 256, chance)
     yield "dense, often the same vertices", vertices(64), dense(64), 16, script(16, 4096, 24, chance)
 
 
