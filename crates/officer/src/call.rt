@@ -147,10 +147,12 @@ fn slices<'a>(alloc: Global, words: &'a [String]) -> Result<Vec<&'a str>, AllocE
     Ok(slices)
 }
 
-/// Prints the report that the words of the command line ask for. It answers the status of the report.
+/// Prints the report that the words of the command line ask for. It answers the status of the
+/// report.
 ///
-/// The words come first, then the graph, and a second file only once the graph is there. An error means that one of
-/// these did not come, that there was no memory, or that the output did not take the report.
+/// The words come first, then the graph, and a second file only once the graph is there. An error
+/// means that one of these did not come, that there was no memory, or that the output did not take
+/// the report.
 pub fn run<R: Threads + Sync + AllocGlobal, S: Surroundings>(
     rt: &R,
     surroundings: &mut S,

@@ -38,7 +38,8 @@ impl From<AllocError> for FetchFault {
     }
 }
 
-// Appends the bytes of one read, none of one that was interrupted. It answers whether the reader was at its end.
+// Appends the bytes of one read, none of one that was interrupted. It answers whether the reader
+// was at its end.
 fn read_on<R: Read>(
     reader: &mut R,
     piece: &mut [u8],

@@ -28,7 +28,8 @@ fn play_rule(text: &mut Vec<u8>, graph: &mut Graph, rule: &RuleLine) -> Result<b
     Ok(reply == Reply::Done)
 }
 
-// Carries out rules in turn, up to the first that is refused, and appends their replies. It answers the status.
+// Carries out rules in turn, up to the first that is refused, and appends their replies. It answers
+// the status.
 pub(crate) fn play(
     text: &mut Vec<u8>,
     graph: &mut Graph,

@@ -165,7 +165,8 @@ fn end_in_graph(alloc: Global, text: Vec<u8>, graph: &Graph) -> Result<Report, A
     Ok(Report { bytes, status: 0 })
 }
 
-// The end of a report where the last meeting failed: the line of a record that the seat did not put.
+// The end of a report where the last meeting failed: the line of a record that the seat did not
+// put.
 fn end_in_fault(text: Vec<u8>, fault: StoreMeetFault) -> Result<Report, AllocError>
     ensures { IfOk result (λ report. EndsInFault text.items fault (report_text report)) }
 {
@@ -255,12 +256,13 @@ fn race_of<R: Threads + Sync>(
     Ok(report)
 }
 
-/// The report of a script whose seats play at once, each in a thread of its own where one can be started, on a store
-/// over the graph.
+/// The report of a script whose seats play at once, each in a thread of its own where one can be
+/// started, on a store over the graph.
 ///
-/// The lines of the outcomes stand by seat. When all have played, the first seat meets the others, and its graph ends
-/// the report; where it finds a record of its own number that it did not put, that line does, with status 1. A session
-/// that is left open is given up. An error means that there was no memory, other than for an event of a seat.
+/// The lines of the outcomes stand by seat. When all have played, the first seat meets the others,
+/// and its graph ends the report; where it finds a record of its own number that it did not put,
+/// that line does, with status 1. A session that is left open is given up. An error means that
+/// there was no memory, other than for an event of a seat.
 pub fn race<R: Threads + Sync + AllocGlobal>(
     rt: &R,
     first: &[u8],

@@ -24,7 +24,8 @@ fn append_reply(text: &mut Vec<u8>, answer: &RaceReply) -> Result<(), AllocError
     Ok(())
 }
 
-/// Appends the line of a meeting that found a record of the seat's own number that the seat did not put.
+/// Appends the line of a meeting that found a record of the seat's own number that the seat did not
+/// put.
 pub(crate) fn append_foreign(text: &mut Vec<u8>, place: usize) -> Result<(), AllocError>
     ensures { OnOk result (text.new.items ≡ text.old.items ++ line_of (race_words (RaceReply.Foreign place))) }
 {

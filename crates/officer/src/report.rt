@@ -55,8 +55,8 @@ fn case(alloc: Global, input: &[u8]) -> Result<Report, Halt>
 
 /// The report of a command for its texts. A command of one text leaves the second aside.
 ///
-/// An error means that there was no memory. Until there is a command that starts threads, the allocator is all
-/// that it needs of the runtime.
+/// An error means that there was no memory. Until there is a command that starts threads, the
+/// allocator is all that it needs of the runtime.
 pub fn report(
     alloc: Global,
     command: &Command,

@@ -238,8 +238,9 @@ fn held_words(alloc: Global, words: &[&str]) -> Result<Vec<String>, AllocError> 
     Ok(strings)
 }
 
-// Surroundings in memory, in which each question may fail. The files are `g` and `h`. It keeps a letter for each
-// question: `w` for the words, `i` for standard input, a file's name, and `p` for the output.
+// Surroundings in memory, in which each question may fail. The files are `g` and `h`. It keeps a
+// letter for each question: `w` for the words, `i` for standard input, a file's name, and `p` for
+// the output.
 #[derive(Drop)]
 struct Desk<'a> {
     words: Held<&'a [&'a str]>,

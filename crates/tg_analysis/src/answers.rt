@@ -11,7 +11,8 @@ use tg_graph::{Graph, Name, Right};
 
 /// Whether some list of rules, each accepted in its turn, gives x the right over y.
 ///
-/// The errors are `Unknown` with the first of x and y that is no vertex, and want of memory. It is never `TooLarge`.
+/// The errors are `Unknown` with the first of x and y that is no vertex, and want of memory. It is
+/// never `TooLarge`.
 pub fn can_share(
     alloc: Global,
     graph: &Graph,

@@ -113,7 +113,8 @@ fn free_helper(graph: &Graph, next: u32) -> u32
     number
 }
 
-/// Adds the rules by which `p` gets the right over `y` from `q`, which has it after the rules so far.
+/// Adds the rules by which `p` gets the right over `y` from `q`, which has it after the rules so
+/// far.
 ///
 /// The numbers of the helpers so far are below `next`; the result takes its place.
 /// The one error is want of memory.

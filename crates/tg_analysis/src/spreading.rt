@@ -67,12 +67,14 @@ fn is_holder(graph: &Graph, asked: &Asked, position: usize) -> bool
     }
 }
 
-// A flood from one vertex. A row is read when the flood comes to its vertex, or to find links that lead back to the flood.
+// A flood from one vertex. A row is read when the flood comes to its vertex, or to find links that
+// lead back to the flood.
 #[derive(Drop)]
 struct Spread {
     // Positions that were met have a number.
     flood: Flood,
-    // For each position those whose rows were read before they were met, and which an edge links to it.
+    // For each position those whose rows were read before they were met, and which an edge links to
+    // it.
     back: Links,
     // How many positions were met and taken.
     followed: usize,
@@ -92,7 +94,8 @@ impl Spread {
         })
     }
 
-    // Meets the positions that are linked to one, by its own edges and by those that were found to lead to it.
+    // Meets the positions that are linked to one, by its own edges and by those that were found to
+    // lead to it.
     fn follow(&mut self, graph: &Graph, position: usize) -> Result<(), AllocError>
         requires len { length self.old.flood.numbers.items ≡ length (keys_of graph.now) }
         requires within { (a : ℕ) → is_near self.old.back position a ≡ true → a < length (keys_of graph.now) }
@@ -134,7 +137,8 @@ impl Spread {
         Ok(false)
     }
 
-    // Notes the edge at a place in the row of a position that was not met, unless it leads to one that was, and says so.
+    // Notes the edge at a place in the row of a position that was not met, unless it leads to one
+    // that was, and says so.
     fn read_edge(
         &mut self,
         graph: &Graph,

@@ -24,8 +24,8 @@ use std::marker::Model;
 
 /// Changed rows and new vertices, laid over a graph.
 ///
-/// A contract sees a draft as its rows and the created vertices; what it stands for over a graph is `laid_over`.
-/// The calls that are given a graph require that the draft fits it.
+/// A contract sees a draft as its rows and the created vertices; what it stands for over a graph is
+/// `laid_over`. The calls that are given a graph require that the draft fits it.
 #[derive(Drop)]
 pub struct Draft {
     rows: IndexMap<Name, SharedRow>,
@@ -214,7 +214,8 @@ impl Draft {
         Ok(())
     }
 
-    /// Whether what the draft stands for accepts a rule. The error is the first reason to refuse it.
+    /// Whether what the draft stands for accepts a rule. The error is the first reason to refuse
+    /// it.
     pub fn check(&self, base: &Graph, rule: &Rule) -> Result<(), Refusal>
         requires named { IsNamed (rights_of rule.now) }
         requires fits { Fits base.now self.now }
@@ -223,13 +224,15 @@ impl Draft {
         checks::check(&Laid { base, draft: self }, rule)
     }
 
-    /// Carries out a rule on what the draft stands for. A refused rule, and want of memory, change nothing.
+    /// Carries out a rule on what the draft stands for. A refused rule, and want of memory, change
+    /// nothing.
     #[tactic(auto, unfolding(crate::specs::Rules::refusal_of, crate::specs::Rules::after))]
     pub fn apply(&mut self, base: &Graph, rule: &Rule) -> Result<(), RuleFault>
         requires named { IsNamed (rights_of rule.now) }
         requires fits { Fits base.now self.old }
         ensures applied { Applies (graph_of (laid_over base.now self.old)) rule.now result (graph_of (laid_over base.now self.new)) }
-        // The names of its rows are those from before, and then the written ones that were not among them.
+        // The names of its rows are those from before, and then the written ones that were not
+        // among them.
         ensures rows { OnOk result (keys_of self.new.0 ≡ insert_all_keys bytes_eq (keys_of self.old.0) (written_by rule.now)) }
         ensures fits { Fits base.now self.new }
         ensures kept { OnErr result (self.new ≡ self.old) }
@@ -244,8 +247,8 @@ impl Draft {
         Ok(())
     }
 
-    /// What the draft stands for, as a graph of its own. It shares each row with the base or the draft, until the row
-    /// is changed in one of them.
+    /// What the draft stands for, as a graph of its own. It shares each row with the base or the
+    /// draft, until the row is changed in one of them.
     pub fn whole(&self, base: &Graph) -> Result<Graph, AllocError>
         requires { Fits base.now self.now }
         ensures { IfOk result (λ whole. whole ≡ laid_over base.now self.now) }
@@ -261,7 +264,8 @@ impl Draft {
     }
 }
 
-/// A draft and the graph that it is laid over, in which there is room for the vertices that the draft creates.
+/// A draft and the graph that it is laid over, in which there is room for the vertices that the
+/// draft creates.
 ///
 /// A contract sees the graph, and then the draft.
 #[derive(Drop)]
@@ -300,7 +304,8 @@ impl Ready {
         }
     }
 
-    /// The graph that the draft stands for. It takes no memory, and its cost is that of the draft's rows.
+    /// The graph that the draft stands for. It takes no memory, and its cost is that of the draft's
+    /// rows.
     pub fn merge(self) -> Graph
         ensures { result ≡ laid_over self.0 self.1 }
     {
@@ -332,8 +337,9 @@ impl Graph {
         Draft::new(self.alloc)
     }
 
-    /// Takes the draft's changes in, at the cost of the draft's rows and, where its created vertices make the table
-    /// grow, of the table. Where memory is refused, nothing is changed, and the draft is given back.
+    /// Takes the draft's changes in, at the cost of the draft's rows and, where its created
+    /// vertices make the table grow, of the table. Where memory is refused, nothing is changed, and
+    /// the draft is given back.
     pub fn merge(&mut self, draft: Draft) -> Result<(), Draft>
         requires { Fits self.old draft }
         ensures merged { OnOk result (self.new ≡ laid_over self.old draft) }
@@ -351,14 +357,14 @@ impl Graph {
     }
 }
 
-/// A draft fits a graph exactly where no created name is a vertex there, and each source and each target of its
-/// rows is a vertex there or created.
+/// A draft fits a graph exactly where no created name is a vertex there, and each source and each
+/// target of its rows is a vertex there or created.
 pub fn drafts_fit_by_names()
     ensures { FittingIsByNames }
 {}
 
-/// Of drafts over one graph that have no row in common each fits what the other makes of the graph, and what both
-/// make of it is the same whichever is laid first.
+/// Of drafts over one graph that have no row in common each fits what the other makes of the graph,
+/// and what both make of it is the same whichever is laid first.
 pub fn drafts_apart_commute()
     ensures fit { ApartFit }
     ensures same { ApartCommute }

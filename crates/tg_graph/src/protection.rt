@@ -22,11 +22,12 @@ use indexmap::IndexMap;
 use std::alloc::{AllocError, Global};
 use std::marker::Model;
 
-/// A protection graph: vertices, and for each two of them the rights that the first has over the second.
+/// A protection graph: vertices, and for each two of them the rights that the first has over the
+/// second.
 ///
-/// A position counts the vertices from 0, in order of insertion.
-/// A contract sees a graph as the list of its vertices with their rows; what the list stands for is `graph_of`.
-/// A call that is refused changes nothing.
+/// A position counts the vertices from 0, in order of insertion. A contract sees a graph as the
+/// list of its vertices with their rows; what the list stands for is `graph_of`. A call that is
+/// refused changes nothing.
 #[derive(Drop)]
 pub struct Graph {
     pub(crate) rows: IndexMap<Name, SharedRow>,
@@ -336,8 +337,8 @@ impl Graph {
         }
     }
 
-    /// The target and label of an edge out of the vertex at a position, by its place in the name order of
-    /// the targets.
+    /// The target and label of an edge out of the vertex at a position, by its place in the name
+    /// order of the targets.
     pub fn row_at(&self, position: usize, place: usize) -> Option<(Name, Rights)>
         ensures { result ≡ slice_get (row_number self.now position) place }
     {
@@ -347,8 +348,9 @@ impl Graph {
         }
     }
 
-    /// A graph with the same vertices at the same positions, and the same edges. It shares each row with this one
-    /// until the row is changed in one of them, so it costs time and memory in the number of vertices.
+    /// A graph with the same vertices at the same positions, and the same edges. It shares each row
+    /// with this one until the row is changed in one of them, so it costs time and memory in the
+    /// number of vertices.
     pub fn copy(&self) -> Result<Graph, AllocError>
         ensures { IfOk result (λ copy. copy ≡ self.now) }
     {
@@ -358,7 +360,8 @@ impl Graph {
         })
     }
 
-    /// A copy that shares nothing with this graph, for another thread: neither of them then touches a word of the other.
+    /// A copy that shares nothing with this graph, for another thread: neither of them then touches
+    /// a word of the other.
     pub fn copy_unshared(&self) -> Result<Graph, AllocError>
         ensures { IfOk result (λ copy. copy ≡ self.now) }
     {
@@ -379,8 +382,8 @@ impl Graph {
         }
     }
 
-    /// Carries out rules in turn, up to the first that fails. The error is its index and its fault; the
-    /// rules before it stand.
+    /// Carries out rules in turn, up to the first that fails. The error is its index and its fault;
+    /// the rules before it stand.
     pub fn run(&mut self, rules: &[Rule]) -> Result<(), (usize, RuleFault)>
         requires { AreNamed rules.now }
         ensures { Runs (graph_of self.old) rules.now result (graph_of self.new) }

@@ -178,7 +178,8 @@ impl Rights {
         None
     }
 
-    /// The set that the bytes write: one letter or more, in any order and none twice, or `-` for the empty set.
+    /// The set that the bytes write: one letter or more, in any order and none twice, or `-` for
+    /// the empty set.
     pub fn from_letters(letters: &[u8]) -> Option<Rights>
         ensures value { result ≡ set_of_letters letters.now }
         ensures named { IfSome result IsNamed }

@@ -8,7 +8,8 @@ use crate::shared_row::SharedRow;
 use indexmap::IndexMap;
 use std::alloc::{AllocError, Global};
 
-/// Puts a row in: in the place of the one that its vertex has, or as the last. A new vertex needs room.
+/// Puts a row in: in the place of the one that its vertex has, or as the last. A new vertex needs
+/// room.
 pub fn put(rows: &mut IndexMap<Name, SharedRow>, n: Name, row: SharedRow)
     requires room { is_known rows.old.entries n ≡ false → 0 < spare rows.old }
     ensures put { rows.new.entries ≡ insert_entry bytes_eq rows.old.entries n row }

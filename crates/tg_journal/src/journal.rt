@@ -13,7 +13,8 @@ use once_cell::race::{Note, OnceBox};
 use std::alloc::{AllocError, Global};
 use std::marker::Model;
 
-/// A row of cells, each of which is set at most once. Contracts see it as the list of its cells' names.
+/// A row of cells, each of which is set at most once. Contracts see it as the list of its cells'
+/// names.
 #[derive(Drop)]
 pub struct Journal<R> {
     pub(crate) cells: Vec<OnceBox<R>>,
@@ -33,7 +34,8 @@ impl<R: Entry> Journal<R> {
     /// A journal of 1 to 4,096 empty cells with 1 to 64 passes, numbered from 1 in their order.
     /// Nothing else makes a pass. All room that the passes need later is made here.
     ///
-    /// Refusals, in this order: `Cells` and `Seats` for a number outside these limits, and `Memory`.
+    /// Refusals, in this order: `Cells` and `Seats` for a number outside these limits, and
+    /// `Memory`.
     pub fn start(
         alloc: Global,
         cells: usize,
@@ -103,7 +105,8 @@ impl<R: Entry> Journal<R> {
 
     /// Looks at the first cell that the pass has not seen: one load. It takes no memory.
     ///
-    /// That it finds what another thread has set is promised only of a pass that was told of it by a front.
+    /// That it finds what another thread has set is promised only of a pass that was told of it by
+    /// a front.
     pub fn next<'a>(&'a self, pass: &mut Pass<R>) -> Next<'a, R>
         requires { pass.old.cells ≡ self.now }
         ensures number { pass.new.number ≡ pass.old.number }
@@ -131,7 +134,8 @@ impl<R: Entry> Journal<R> {
         }
     }
 
-    /// Tries to set the first cell that the pass has not seen to a copy of the record, made before: one setting.
+    /// Tries to set the first cell that the pass has not seen to a copy of the record, made before:
+    /// one setting.
     ///
     /// Answers `Full` exactly where the pass has seen every cell. `Memory` changes nothing.
     pub fn put(&self, pass: &mut Pass<R>, entry: &R) -> Put
@@ -192,10 +196,12 @@ impl<R: Entry> Journal<R> {
         Ok(Front { notes })
     }
 
-    /// Has the pass see what the front has seen, whichever of the two has seen more. It takes no memory.
+    /// Has the pass see what the front has seen, whichever of the two has seen more. It takes no
+    /// memory.
     ///
-    /// Refused with `Foreign` where the front has, at a place that the pass had not seen, a record of the pass's own
-    /// number. The pass has then seen what the front has before that place, and knows that record.
+    /// Refused with `Foreign` where the front has, at a place that the pass had not seen, a record
+    /// of the pass's own number. The pass has then seen what the front has before that place, and
+    /// knows that record.
     pub fn meet(&self, pass: &mut Pass<R>, front: &Front<R>) -> Result<(), MeetFault>
         requires pass { pass.old.cells ≡ self.now }
         requires front { front.now.cells ≡ take (length front.now.seen) self.now }
@@ -205,7 +211,8 @@ impl<R: Entry> Journal<R> {
         ensures known { Remembers pass.old pass.new }
         ensures pass { IsPass R.seat_of pass.new }
 
-        // Whatever the answer, what the two had seen agrees, and the pass has seen nothing less than before.
+        // Whatever the answer, what the two had seen agrees, and the pass has seen nothing less
+        // than before.
         ensures agree { Agree pass.old.seen front.now.seen }
         ensures begins { Begins pass.old.seen pass.new.seen }
 
@@ -227,7 +234,8 @@ impl<R: Entry> Journal<R> {
         Ok(())
     }
 
-    // Has the pass see what the note of the next place of a front knows. False where that is a record of its own number.
+    // Has the pass see what the note of the next place of a front knows. False where that is a
+    // record of its own number.
     fn meet_at(&self, pass: &mut Pass<R>, place: usize, note: Note<R>) -> bool
         requires cells { pass.old.cells ≡ self.now }
         requires place { place ≤ length pass.old.seen }
@@ -253,8 +261,8 @@ impl<R: Entry> Journal<R> {
         self.look(pass)
     }
 
-    // Has the pass see the record that it knows of the first cell that it has not seen. False where that is a record
-    // of its own number.
+    // Has the pass see the record that it knows of the first cell that it has not seen. False where
+    // that is a record of its own number.
     fn look(&self, pass: &mut Pass<R>) -> bool
         requires cells { pass.old.cells ≡ self.now }
         requires known { (r : R) × KnowsAt pass.old (length pass.old.seen) r }

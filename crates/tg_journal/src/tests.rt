@@ -255,7 +255,8 @@ fn copy_refused(rt: HostRuntime) {
     assert!(rt; pass.len() == 1);
 }
 
-// It passes whichever one request for memory is refused: `rt try --test --fail-alloc N -- refused`, for N from 1 on.
+// It passes whichever one request for memory is refused: `rt try --test --fail-alloc N -- refused`,
+// for N from 1 on.
 #[test]
 fn request_refused(rt: HostRuntime) -> Result<(), Fail> {
     let Ok((journal, mut passes)) = started(rt.alloc()) else {

@@ -137,10 +137,11 @@ fn note(replies: &mut Vec<HallReply>, reply: HallReply)
 }
 
 impl Hall {
-    /// A hall over a copy of the opening graph, with an empty history of so many cells, and with seats from number 1 on.
+    /// A hall over a copy of the opening graph, with an empty history of so many cells, and with
+    /// seats from number 1 on.
     ///
-    /// Its faults, in this order: the graph has more than 1,024 vertices; the cells are not 1 to 4,096; the seats are
-    /// not 1 to 64; memory was refused.
+    /// Its faults, in this order: the graph has more than 1,024 vertices; the cells are not 1 to
+    /// 4,096; the seats are not 1 to 64; memory was refused.
     pub fn new(alloc: Global, graph: &Graph, cells: usize, seats: u32) -> Result<Hall, StoreFault>
         ensures { OpensHall graph.now cells seats result }
     {
@@ -209,7 +210,8 @@ impl Hall {
         Some(seat.graph())
     }
 
-    // The number of a seat that has taken in the most. Each seat leads to the same graph: this one soonest.
+    // The number of a seat that has taken in the most. Each seat leads to the same graph: this one
+    // soonest.
     fn furthest(&self) -> u32 {
         let mut furthest = 1;
         let mut most = 0;
@@ -249,8 +251,8 @@ impl Hall {
 
     /// One event at a seat.
     ///
-    /// `NoSeat` comes exactly where no seat has the number. What each event answers and leaves is `Happens`. To open a
-    /// session and to give one up take no memory.
+    /// `NoSeat` comes exactly where no seat has the number. What each event answers and leaves is
+    /// `Happens`. To open a session and to give one up take no memory.
     pub fn step(&mut self, event: Event) -> HallReply
         requires { IsStageable event }
         ensures happens { Happens self.old event result self.new }
@@ -309,7 +311,8 @@ impl Hall {
         }
     }
 
-    /// One act of a seat: to take in all that is left and open a session, to stage a step, to commit, or to give up.
+    /// One act of a seat: to take in all that is left and open a session, to stage a step, to
+    /// commit, or to give up.
     ///
     /// Want of memory ends an act where it stands.
     pub fn act(&mut self, seat: u32, act: &Act) -> HallReply

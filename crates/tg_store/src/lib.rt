@@ -1,9 +1,10 @@
 //! Monitors of sessions: seats that take in one history of committed sessions.
 //!
-//! A [`Hall`] is one value, for one thread. A [`Store`] is for running threads, which share it without a lock: each owns
-//! a [`Seat`], and the cells of the store's journal are all that they share. `begin` and `commit` look at cells, `commit`
-//! sets one, `meet` looks at those that only the front has seen, and `at` and `agreed` read seen cells again. `step` and
-//! `abort` touch no word that another seat's thread touches.
+//! A [`Hall`] is one value, for one thread. A [`Store`] is for running threads, which share it
+//! without a lock: each owns a [`Seat`], and the cells of the store's journal are all that they
+//! share. `begin` and `commit` look at cells, `commit` sets one, `meet` looks at those that only
+//! the front has seen, and `at` and `agreed` read seen cells again. `step` and `abort` touch no
+//! word that another seat's thread touches.
 #![tactic(auto)]
 
 #[cfg(test)]

@@ -21,10 +21,11 @@ use std::sync::Arc;
 use tg_graph::{Draft, Graph, Ready};
 use tg_journal::{Front, Journal, MeetFault, Next, Pass, Put};
 
-/// A seat of a running store, for one thread. `Store::start` makes it, and it stays with that store.
+/// A seat of a running store, for one thread. `Store::start` makes it, and it stays with that
+/// store.
 ///
-/// It knows the records that it has seen, and has a graph, which is the replay of those that it has taken in. It shares
-/// no row of it with another seat.
+/// It knows the records that it has seen, and has a graph, which is the replay of those that it has
+/// taken in. It shares no row of it with another seat.
 #[derive(Drop)]
 pub struct Seat {
     opening: Arc<Graph, Global>,
@@ -231,8 +232,8 @@ impl Seat {
         Ok(())
     }
 
-    // Puts a record of its own, which is true where it stands and whose draft this is, or sees the one that got there
-    // first. All room is made before.
+    // Puts a record of its own, which is true where it stands and whose draft this is, or sees the
+    // one that got there first. All room is made before.
     pub(crate) fn offer(self, journal: &Journal<Record>, stored: &Record, draft: Draft) -> Offered
         requires cells { self.pass.cells ≡ journal.now }
         requires number { (stored.now.seat ≡ self.pass.number) × (stored.now.number ≡ length self.pass.mine) }

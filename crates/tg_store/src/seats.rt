@@ -25,8 +25,8 @@ pub struct OpenSession {
     pub(crate) kept: Vec<Answered>,
 }
 
-/// A seat: how many records it has taken in, the graph that they lead to, how many sessions it has committed, and its
-/// open session.
+/// A seat: how many records it has taken in, the graph that they lead to, how many sessions it has
+/// committed, and its open session.
 #[derive(Drop)]
 pub struct SeatState {
     taken: usize,
@@ -115,7 +115,8 @@ impl SeatState {
         &self.graph
     }
 
-    /// The graph that all records lead to, those that the seat has taken in and those that are left.
+    /// The graph that all records lead to, those that the seat has taken in and those that are
+    /// left.
     pub fn replayed(&self, records: &[Record]) -> Result<Graph, AllocError>
         requires { self.now.taken ≤ length records.now }
         ensures { IfOk result (λ graph. (g : ProtectionGraph) → Rests g records.now self.now → graph_of graph ≡ replay g records.now) }
@@ -201,8 +202,8 @@ impl SeatState {
         None
     }
 
-    // Lays the steps of a record on the graph. The draft of the open session, of which the record is clear, is as it was.
-    // An error changes nothing.
+    // Lays the steps of a record on the graph. The draft of the open session, of which the record
+    // is clear, is as it was. An error changes nothing.
     fn lay(&mut self, committed: &[Answered]) -> Result<(), AllocError>
         requires consistent { IsConsistent self.old }
         requires named { All (λ a. IsNamedStep a.step) committed.now }
@@ -317,7 +318,8 @@ impl SeatState {
         HallReply::Put(place)
     }
 
-    /// Puts the open session at the end of the history, or takes in the next record where one is left.
+    /// Puts the open session at the end of the history, or takes in the next record where one is
+    /// left.
     pub fn put(&mut self, number: u32, cells: usize, records: &mut Vec<Record>) -> HallReply
         requires consistent { IsConsistent self.old }
         requires counted { self.old.commits ≡ count_of number records.old.items }

@@ -101,7 +101,8 @@ fn taken_first(rt: &impl Abort, store: &Store, seat: Seat) -> Seat
     done(rt, store, session, 0)
 }
 
-// Each takes from the other. The second seat is refused, and begins again on what the first has done.
+// Each takes from the other. The second seat is refused, and begins again on what the first has
+// done.
 fn both_take(rt: &impl Abort, store: &Store, one: Seat, two: Seat) -> Seat
     requires { IsOf store.now one × IsOf store.now two }
     ensures { IsOf store.now result }

@@ -76,11 +76,11 @@ fn seats_of(
 }
 
 impl Store {
-    /// A store over a copy of the opening graph, with an empty journal of so many cells, and its seats, numbered from 1
-    /// in their order.
+    /// A store over a copy of the opening graph, with an empty journal of so many cells, and its
+    /// seats, numbered from 1 in their order.
     ///
-    /// Its faults, in this order: the graph has more than 1,024 vertices; the cells are not 1 to 4,096; the seats are
-    /// not 1 to 64; memory was refused.
+    /// Its faults, in this order: the graph has more than 1,024 vertices; the cells are not 1 to
+    /// 4,096; the seats are not 1 to 64; memory was refused.
     pub fn start(
         alloc: Global,
         graph: &Graph,
@@ -241,7 +241,8 @@ impl Store {
         true
     }
 
-    /// Whether at least one seat is given, all have seen equal records, and each record bears the number of one of them.
+    /// Whether at least one seat is given, all have seen equal records, and each record bears the
+    /// number of one of them.
     ///
     /// Then these records are legal: each was put by a seat that knows it to be true.
     pub fn agreed(&self, seats: &[Seat]) -> bool

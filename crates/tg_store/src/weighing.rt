@@ -48,8 +48,8 @@ fn lay_watched(
     }
 }
 
-// Lays steps on a draft that is empty, and says the first name that they write and that the session touches. There it
-// stops.
+// Lays steps on a draft that is empty, and says the first name that they write and that the session
+// touches. There it stops.
 fn lay_all_watched(
     base: &Graph,
     draft: &mut Draft,
@@ -72,7 +72,8 @@ fn lay_all_watched(
     Ok(None)
 }
 
-// Whether what a draft makes of a graph has too many vertices, together with those that the session creates.
+// Whether what a draft makes of a graph has too many vertices, together with those that the session
+// creates.
 fn overfills(base: &Graph, draft: &Draft, session: &[Answered]) -> bool
     requires { Fits base.now draft.now }
     ensures { IsTrue result ↔

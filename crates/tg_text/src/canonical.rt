@@ -103,8 +103,8 @@ fn append_rows(text: &mut Vec<u8>, graph: &Graph, sources: &[Name]) -> Result<()
     Ok(())
 }
 
-/// The canonical text of a graph: its vertices in name order, then its edges in order of source, then target.
-/// The error is want of memory.
+/// The canonical text of a graph: its vertices in name order, then its edges in order of source,
+/// then target. The error is want of memory.
 pub fn write_graph(alloc: Global, graph: &Graph) -> Result<Vec<u8>, AllocError>
     ensures { IfOk result (λ text. text.items ≡ canonical_text (graph_of graph.now)) }
 {

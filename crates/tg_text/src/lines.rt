@@ -9,8 +9,8 @@ use crate::limits::MOST_LINE_BYTES;
 
 /// The first line of a text without its line feed, and what stands behind it.
 ///
-/// A text that is not empty has a first line, and each cut makes it shorter, so a loop that goes on with what
-/// stands behind the line meets every line in turn. No memory is taken.
+/// A text that is not empty has a first line, and each cut makes it shorter, so a loop that goes on
+/// with what stands behind the line meets every line in turn. No memory is taken.
 pub fn cut_line(text: &[u8]) -> (&[u8], &[u8])
     requires { 0 < length text.now }
     ensures cut { lines_of text.now ≡ result.0.now ∷ lines_of result.1.now }
@@ -60,7 +60,8 @@ fn word_len(bytes: &[u8]) -> usize
     bytes.len()
 }
 
-/// The first word of a line, and what stands behind it, which is shorter; nothing where the line has no word.
+/// The first word of a line, and what stands behind it, which is shorter; nothing where the line
+/// has no word.
 ///
 /// No memory is taken.
 pub fn cut_word(bytes: &[u8]) -> Option<(&[u8], &[u8])>

@@ -39,8 +39,8 @@ fn add_line<T: Items>(items: &mut T, line: usize, bytes: &[u8]) -> Result<(), Li
     Ok(())
 }
 
-/// Adds what the lines of a text say, each in turn, and gives the number of the lines. The error is the
-/// first fault, with its line.
+/// Adds what the lines of a text say, each in turn, and gives the number of the lines. The error is
+/// the first fault, with its line.
 pub(crate) fn read_lines<T: Items>(items: &mut T, text: &[u8]) -> Result<usize, TextFault>
     requires { T.IsSound items.old }
     ensures made { MakesAll (after_lines T.item 1 (T.made items.old) (lines_of text.now)) (length (lines_of text.now)) result (T.made items.new) }

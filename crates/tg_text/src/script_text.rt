@@ -224,9 +224,9 @@ impl Items for ScriptItems {
 /// The script of a text.
 ///
 /// `At` names the first faulty line, and the first of these that it has: `LineTooLong`, `BadWord`,
-/// `WordCount`, `BadNumber`, `BadName`, `BadRights`, `TooMany` where there are `MOST_ENTRIES` events already.
-/// Where the text ends before both header lines it is `NoHeader`, on the line behind the last.
-/// `Memory` is answered where a growth was refused, whatever stands further on.
+/// `WordCount`, `BadNumber`, `BadName`, `BadRights`, `TooMany` where there are `MOST_ENTRIES`
+/// events already. Where the text ends before both header lines it is `NoHeader`, on the line
+/// behind the last. `Memory` is answered where a growth was refused, whatever stands further on.
 pub fn read_script(alloc: Global, text: &[u8]) -> Result<Script, TextFault>
     ensures value { Reads script_of result (script_text text.now) }
     ensures named { IfOk result (λ script. AreNamedEvents script.lines.items) }

@@ -80,8 +80,8 @@ pub(crate) fn put_rights(text: &mut Vec<u8>, rights: Rights)
     }
 }
 
-/// Appends the line of a rule, without a line feed. It fails only where there is no room and memory is refused,
-/// and the text then stays as it was.
+/// Appends the line of a rule, without a line feed. It fails only where there is no room and memory
+/// is refused, and the text then stays as it was.
 pub fn append_rule(text: &mut Vec<u8>, rule: &Rule) -> Result<(), AllocError>
     ensures appended { OnOk result (text.new.items ≡ text.old.items ++ rule_text rule.now) }
     ensures kept { OnErr result (text.new.items ≡ text.old.items) }
@@ -144,8 +144,8 @@ fn put_refusal(text: &mut Vec<u8>, refusal: Refusal)
     }
 }
 
-/// Appends the text of a reply. It fails only where there is no room and memory is refused, and the text then
-/// stays as it was.
+/// Appends the text of a reply. It fails only where there is no room and memory is refused, and the
+/// text then stays as it was.
 pub fn append_reply(text: &mut Vec<u8>, reply: &Reply) -> Result<(), AllocError>
     ensures appended { OnOk result (text.new.items ≡ text.old.items ++ reply_text reply.now) }
     ensures kept { OnErr result (text.new.items ≡ text.old.items) }
@@ -177,8 +177,8 @@ fn put_number(text: &mut Vec<u8>, number: usize)
     text.push_reserved(b'0' + (number % 10) as u8);
 }
 
-/// Appends a number in decimal, without leading zeros. It fails only where there is no room and memory is
-/// refused, and the text then stays as it was.
+/// Appends a number in decimal, without leading zeros. It fails only where there is no room and
+/// memory is refused, and the text then stays as it was.
 pub fn append_number(text: &mut Vec<u8>, number: usize) -> Result<(), AllocError>
     ensures appended { OnOk result (text.new.items ≡ text.old.items ++ decimal number) }
     ensures kept { OnErr result (text.new.items ≡ text.old.items) }
