@@ -24,7 +24,8 @@ struct Texts {
 
 // A text that was read, or why it was not; an unreadable one has a cause of its own.
 fn text_or(answer: Result<Vec<u8>, FetchFault>, unreadable: Cause) -> Result<Vec<u8>, Cause>
-    ensures { seen (λ bytes. bytes.items) result ≡ text_or unreadable (seen (λ bytes. bytes.items) answer) }
+    ensures { seen (λ bytes. bytes.items) result
+        ≡ text_or unreadable (seen (λ bytes. bytes.items) answer) }
 {
     match answer {
         Ok(bytes) => Ok(bytes),
@@ -36,7 +37,8 @@ fn text_or(answer: Result<Vec<u8>, FetchFault>, unreadable: Cause) -> Result<Vec
 
 // The text of a graph alone.
 fn alone(alloc: Global, graph: Result<Vec<u8>, FetchFault>) -> Result<Texts, Cause>
-    ensures { seen bytes_of result ≡ and_text (text_or Cause.Graph (seen (λ bytes. bytes.items) graph)) (Ok []) }
+    ensures { seen bytes_of result
+        ≡ and_text (text_or Cause.Graph (seen (λ bytes. bytes.items) graph)) (Ok []) }
 {
     match text_or(graph, Cause::Graph) {
         Ok(first) => Ok(Texts {
@@ -49,7 +51,8 @@ fn alone(alloc: Global, graph: Result<Vec<u8>, FetchFault>) -> Result<Texts, Cau
 
 // The text of a graph and a second text.
 fn beside(first: Vec<u8>, second: Result<Vec<u8>, FetchFault>) -> Result<Texts, Cause>
-    ensures { seen bytes_of result ≡ and_text (Ok first.items) (text_or Cause.Second (seen (λ bytes. bytes.items) second)) }
+    ensures { seen bytes_of result
+        ≡ and_text (Ok first.items) (text_or Cause.Second (seen (λ bytes. bytes.items) second)) }
 {
     match text_or(second, Cause::Second) {
         Ok(second) => Ok(Texts { first, second }),
@@ -64,7 +67,8 @@ fn both<S: Surroundings>(
     graph: &str,
     second: &str,
 ) -> Result<Texts, Cause>
-    ensures { Deals (S.dealings surroundings.old) (S.dealings surroundings.new) (ReadsBoth graph.now second.now (seen bytes_of result)) }
+    ensures { Deals (S.dealings surroundings.old) (S.dealings surroundings.new)
+        (ReadsBoth graph.now second.now (seen bytes_of result)) }
 {
     match text_or(surroundings.file(alloc, graph), Cause::Graph) {
         Ok(first) => beside(first, surroundings.file(alloc, second)),
@@ -78,7 +82,8 @@ fn texts_of<S: Surroundings>(
     surroundings: &mut S,
     call: &Call,
 ) -> Result<Texts, Cause>
-    ensures { Deals (S.dealings surroundings.old) (S.dealings surroundings.new) (Reads (call_words call.now) (seen bytes_of result)) }
+    ensures { Deals (S.dealings surroundings.old) (S.dealings surroundings.new)
+        (Reads (call_words call.now) (seen bytes_of result)) }
 {
     match *call {
         Call::Input => alone(alloc, surroundings.input(alloc)),
@@ -90,7 +95,8 @@ fn texts_of<S: Surroundings>(
 
 // Prints a report, and answers its status.
 fn print<S: Surroundings>(surroundings: &mut S, report: &Report) -> Result<u8, Cause>
-    ensures { Deals (S.dealings surroundings.old) (S.dealings surroundings.new) (Prints (report_text report.now) result) }
+    ensures { Deals (S.dealings surroundings.old) (S.dealings surroundings.new)
+        (Prints (report_text report.now) result) }
 {
     match surroundings.print(&report.bytes) {
         Ok(()) => Ok(report.status),
@@ -104,7 +110,10 @@ fn report_of<R: Threads + Sync + AllocGlobal>(
     call: &Call,
     texts: &Texts,
 ) -> Result<Report, AllocError>
-    ensures { IfOk result (λ report. IsReportOf (command_of (call_words call.now)) texts.now.first.items texts.now.second.items (report_text report)) }
+    ensures { IfOk result
+        (λ report. IsReportOf
+        (command_of (call_words call.now)) texts.now.first.items texts.now.second.items
+        (report_text report)) }
 {
     match call.command() {
         Some(command) => {
@@ -124,7 +133,8 @@ fn answer<R: Threads + Sync + AllocGlobal, S: Surroundings>(
     surroundings: &mut S,
     call: &Call,
 ) -> Result<u8, Cause>
-    ensures { Deals (S.dealings surroundings.old) (S.dealings surroundings.new) (AnswersCall (call_words call.now) result) }
+    ensures { Deals (S.dealings surroundings.old) (S.dealings surroundings.new)
+        (AnswersCall (call_words call.now) result) }
 {
     let texts = match texts_of(rt.alloc(), surroundings, call) {
         Ok(texts) => texts,
@@ -138,7 +148,8 @@ fn answer<R: Threads + Sync + AllocGlobal, S: Surroundings>(
 
 // The words as slices.
 fn slices<'a>(alloc: Global, words: &'a [String]) -> Result<Vec<&'a str>, AllocError>
-    ensures { IfOk result (λ slices. map (λ word. word.now) slices.items ≡ map string_bytes words.now) }
+    ensures { IfOk result
+        (λ slices. map (λ word. word.now) slices.items ≡ map string_bytes words.now) }
 {
     let mut slices = Vec::with_capacity(alloc, words.len())?;
     for word in words {

@@ -19,7 +19,8 @@ fn numbered(
     islands: &Islands,
     names: &[Name],
 ) -> Result<Vec<(Name, Option<usize>)>, AllocError>
-    ensures { IfOk result (λ entries. entries.items ≡ numbered (keys_of graph.now) islands.now names.now) }
+    ensures { IfOk result
+        (λ entries. entries.items ≡ numbered (keys_of graph.now) islands.now names.now) }
 {
     let mut entries = Vec::with_capacity(alloc, names.len())?;
     for name in names {

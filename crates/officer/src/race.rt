@@ -58,7 +58,8 @@ fn play_if_own(
 ) -> Result<Player, AllocError>
     requires seat { IsOf store.now (seat_at player) }
     requires act { IsStageableAct event.now.act }
-    ensures { IfOk result (TurnsIf (event.now.seat == number) player event.now text.old.items text.new.items) }
+    ensures { IfOk result
+        (TurnsIf (event.now.seat == number) player event.now text.old.items text.new.items) }
 {
     if event.seat == number {
         play_event(text, store, player, event)
@@ -146,7 +147,8 @@ fn meet_all(store: &Store, seat: &mut Seat, others: &[Seat]) -> Result<(), Store
     requires seat { IsOf store.now seat.old }
     requires others { All (IsOf store.now) others.now }
     ensures goes_on { GoesOn seat.old seat.new }
-    ensures met { IfOk result (λ _. All (λ other. Begins other.pass.seen (taken_in seat.new)) others.now) }
+    ensures met { IfOk result
+        (λ _. All (λ other. Begins other.pass.seen (taken_in seat.new)) others.now) }
     ensures refused { IfErr result (λ fault. MeetFaultSays fault seat.new) }
 {
     for other in others {
@@ -157,7 +159,8 @@ fn meet_all(store: &Store, seat: &mut Seat, others: &[Seat]) -> Result<(), Store
 
 // The end of a report: a graph.
 fn end_in_graph(alloc: Global, text: Vec<u8>, graph: &Graph) -> Result<Report, AllocError>
-    ensures { IfOk result (λ report. report_text report ≡ graph_report text.items (graph_of graph.now)) }
+    ensures { IfOk result
+        (λ report. report_text report ≡ graph_report text.items (graph_of graph.now)) }
 {
     let mut bytes = text;
     bytes.extend_from_slice(b"graph\n")?;
@@ -214,7 +217,9 @@ fn store_for(
     ensures opening { IfOk result (λ r. r.0.opening ≡ graph.now) }
     ensures cells { IfOk result (λ r. length r.0.cells ≡ script.now.cells) }
     ensures count { IfOk result (λ r. length r.1.items ≡ script.now.seats) }
-    ensures seats { IfOk result (λ r. (k : ℕ) → k < script.now.seats → slice_get r.1.items k ≡ Some (first_seat r.0 (k + 1))) }
+    ensures seats { IfOk result
+        (λ r. (k : ℕ) → k < script.now.seats
+        → slice_get r.1.items k ≡ Some (first_seat r.0 (k + 1))) }
 {
     match Store::start(alloc, graph, script.cells, script.seats) {
         Ok(opened) => Ok(opened),
@@ -232,7 +237,8 @@ fn raced<R: Threads + Sync>(
 ) -> Result<Report, AllocError>
     requires small { length (graph_of graph.now).vertices ≤ 1024 }
     requires playable { IsPlayableScript (script_of script.now) }
-    ensures { IfOk result (λ report. IsRaced (graph_of graph.now) (script_of script.now) (report_text report)) }
+    ensures { IfOk result
+        (λ report. IsRaced (graph_of graph.now) (script_of script.now) (report_text report)) }
 {
     let (store, seats) = store_for(alloc, graph, script)?;
     let results = play_all(rt, alloc, &store, seats, &script.lines)?;
@@ -248,7 +254,8 @@ fn race_of<R: Threads + Sync>(
     first: &[u8],
     second: &[u8],
 ) -> Result<Report, Halt>
-    ensures { Makes (IsFor (λ p. IsRaced p.graph p.script) (playing_in first.now second.now)) result }
+    ensures { Makes (IsFor (λ p. IsRaced p.graph p.script) (playing_in first.now second.now))
+        result }
 {
     let graph = graph_in(alloc, first)?;
     let script = script_in(alloc, second)?;

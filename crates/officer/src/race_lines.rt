@@ -13,7 +13,8 @@ use tg_text::{ScriptLine, append_number};
 // Appends what an event came to.
 fn append_reply(text: &mut Vec<u8>, answer: &RaceReply) -> Result<(), AllocError>
     requires { MayBeToldInRace answer.now }
-    ensures appended { OnOk result (text.new.items ≡ text.old.items ++ spaced (race_words answer.now)) }
+    ensures appended { OnOk result
+        (text.new.items ≡ text.old.items ++ spaced (race_words answer.now)) }
     ensures told { OnOk result (0 < length (race_words answer.now)) }
 {
     match *answer {
@@ -27,7 +28,8 @@ fn append_reply(text: &mut Vec<u8>, answer: &RaceReply) -> Result<(), AllocError
 /// Appends the line of a meeting that found a record of the seat's own number that the seat did not
 /// put.
 pub(crate) fn append_foreign(text: &mut Vec<u8>, place: usize) -> Result<(), AllocError>
-    ensures { OnOk result (text.new.items ≡ text.old.items ++ line_of (race_words (RaceReply.Foreign place))) }
+    ensures { OnOk result
+        (text.new.items ≡ text.old.items ++ line_of (race_words (RaceReply.Foreign place))) }
 {
     append_reply(text, &RaceReply::Foreign(place))?;
     text.push(b'\n')?;

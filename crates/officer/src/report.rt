@@ -47,7 +47,8 @@ fn apply(alloc: Global, first: &[u8], second: &[u8]) -> Result<Report, Halt>
 }
 
 fn case(alloc: Global, input: &[u8]) -> Result<Report, Halt>
-    ensures { Brings report_text result (apply_report (graph_part input.now) (rules_part input.now)) }
+    ensures { Brings report_text result
+        (apply_report (graph_part input.now) (rules_part input.now)) }
 {
     let (first, second) = parts_of(input);
     apply(alloc, first, second)
@@ -63,7 +64,8 @@ pub fn report(
     first: &[u8],
     second: &[u8],
 ) -> Result<Report, AllocError>
-    ensures { IfOk result (λ report. IsReport (command_words command.now) first.now second.now (report_text report)) }
+    ensures { IfOk result
+        (λ report. IsReport (command_words command.now) first.now second.now (report_text report)) }
 {
     let made = match *command {
         Command::Case => case(alloc, first),

@@ -21,8 +21,10 @@ pub fn can_share(
     y: Name,
 ) -> Result<bool, AskFault>
     ensures known { OnOk result (question_fault (graph_of graph.now) x y ≡ None) }
-    ensures exact { IfOk result (λ answer. IsTrue answer ↔ CanShare (graph_of graph.now) right x y) }
-    ensures no { IfOk result (λ answer. answer ≡ false → CanShare (graph_of graph.now) right x y → ⊥) }
+    ensures exact { IfOk result
+        (λ answer. IsTrue answer ↔ CanShare (graph_of graph.now) right x y) }
+    ensures no { IfOk result
+        (λ answer. answer ≡ false → CanShare (graph_of graph.now) right x y → ⊥) }
     ensures fault { IfErr result (IsDueFault (question_fault (graph_of graph.now) x y)) }
 {
     if !graph.knows(x) {

@@ -98,7 +98,8 @@ impl Spread {
     // lead to it.
     fn follow(&mut self, graph: &Graph, position: usize) -> Result<(), AllocError>
         requires len { length self.old.flood.numbers.items ≡ length (keys_of graph.now) }
-        requires within { (a : ℕ) → is_near self.old.back position a ≡ true → a < length (keys_of graph.now) }
+        requires within { (a : ℕ) → is_near self.old.back position a ≡ true
+            → a < length (keys_of graph.now) }
         ensures { OnOk result (Follows graph.now position self.old self.new) }
     {
         self.flood.meet_row(graph, position)?;
@@ -109,7 +110,8 @@ impl Spread {
     // The same, unless each position was met.
     fn follow_on(&mut self, graph: &Graph, position: usize) -> Result<(), AllocError>
         requires len { length self.old.flood.numbers.items ≡ length (keys_of graph.now) }
-        requires within { (a : ℕ) → is_near self.old.back position a ≡ true → a < length (keys_of graph.now) }
+        requires within { (a : ℕ) → is_near self.old.back position a ≡ true
+            → a < length (keys_of graph.now) }
         requires count { work_left self.old.flood + self.old.followed ≡ length (keys_of graph.now) }
         ensures { OnOk result (FollowsOn graph.now position self.old self.new) }
     {
@@ -196,7 +198,9 @@ impl Spread {
     fn search(&mut self, graph: &Graph, asked: &Asked) -> Result<bool, AllocError>
         requires spread { IsSpread graph.now asked.now self.old.flood.waiting.items self.old }
         requires source { has_vertex (graph_of graph.now) asked.now.x ≡ true }
-        ensures { IfOk result (λ found. IsTrue found ↔ HeldInIsland (graph_of graph.now) asked.now.right asked.now.x asked.now.y) }
+        ensures { IfOk result
+            (λ found. IsTrue found
+            ↔ HeldInIsland (graph_of graph.now) asked.now.right asked.now.x asked.now.y) }
     {
         let count = graph.len();
         if self.run(graph, asked)? {
@@ -217,7 +221,9 @@ impl Spread {
 pub fn island_holds(alloc: Global, graph: &Graph, asked: &Asked) -> Result<bool, AllocError>
     requires source { has_vertex (graph_of graph.now) asked.now.x ≡ true }
     requires target { has_vertex (graph_of graph.now) asked.now.y ≡ true }
-    ensures { IfOk result (λ found. IsTrue found ↔ CanShare (graph_of graph.now) asked.now.right asked.now.x asked.now.y) }
+    ensures { IfOk result
+        (λ found. IsTrue found
+        ↔ CanShare (graph_of graph.now) asked.now.right asked.now.x asked.now.y) }
 {
     laws::shared_exactly();
     let count = graph.len();

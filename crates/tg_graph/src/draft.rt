@@ -163,7 +163,8 @@ impl Draft {
         requires target { has_vertex (graph_of (laid_over base.now self.old)) y ≡ true }
         ensures given { OnOk result
             (graph_of (laid_over base.now self.new) ≡ with_rights (graph_of (laid_over base.now self.old)) x y rights) }
-        ensures rows { OnOk result (keys_of self.new.0 ≡ insert_key bytes_eq (keys_of self.old.0) x) }
+        ensures rows { OnOk result
+            (keys_of self.new.0 ≡ insert_key bytes_eq (keys_of self.old.0) x) }
         ensures fits { Fits base.now self.new }
         ensures err { OnErr result (self.new ≡ self.old) }
     {
@@ -180,7 +181,8 @@ impl Draft {
         requires source { has_vertex (graph_of (laid_over base.now self.old)) x ≡ true }
         ensures taken { OnOk result
             (graph_of (laid_over base.now self.new) ≡ without_rights (graph_of (laid_over base.now self.old)) x y rights) }
-        ensures rows { OnOk result (keys_of self.new.0 ≡ insert_key bytes_eq (keys_of self.old.0) x) }
+        ensures rows { OnOk result
+            (keys_of self.new.0 ≡ insert_key bytes_eq (keys_of self.old.0) x) }
         ensures fits { Fits base.now self.new }
         ensures err { OnErr result (self.new ≡ self.old) }
     {
@@ -198,7 +200,8 @@ impl Draft {
         requires fresh { has_vertex (graph_of (laid_over base.now self.old)) n ≡ false }
         ensures created { OnOk result
             (graph_of (laid_over base.now self.new) ≡ with_rights (with_vertex (graph_of (laid_over base.now self.old)) n) x n rights) }
-        ensures rows { OnOk result (keys_of self.new.0 ≡ insert_all_keys bytes_eq (keys_of self.old.0) (x ∷ n ∷ [])) }
+        ensures rows { OnOk result
+            (keys_of self.new.0 ≡ insert_all_keys bytes_eq (keys_of self.old.0) (x ∷ n ∷ [])) }
         ensures fits { Fits base.now self.new }
         ensures err { OnErr result (self.new ≡ self.old) }
     {
@@ -230,10 +233,13 @@ impl Draft {
     pub fn apply(&mut self, base: &Graph, rule: &Rule) -> Result<(), RuleFault>
         requires named { IsNamed (rights_of rule.now) }
         requires fits { Fits base.now self.old }
-        ensures applied { Applies (graph_of (laid_over base.now self.old)) rule.now result (graph_of (laid_over base.now self.new)) }
+        ensures applied { Applies (graph_of (laid_over base.now self.old)) rule.now result
+            (graph_of (laid_over base.now self.new)) }
         // The names of its rows are those from before, and then the written ones that were not
         // among them.
-        ensures rows { OnOk result (keys_of self.new.0 ≡ insert_all_keys bytes_eq (keys_of self.old.0) (written_by rule.now)) }
+        ensures rows { OnOk result
+            (keys_of self.new.0 ≡ insert_all_keys bytes_eq (keys_of self.old.0)
+            (written_by rule.now)) }
         ensures fits { Fits base.now self.new }
         ensures kept { OnErr result (self.new ≡ self.old) }
     {

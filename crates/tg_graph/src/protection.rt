@@ -204,9 +204,14 @@ impl Graph {
         requires label { IsLabel rights }
         requires source { has_vertex (graph_of self.old) x ≡ true }
         requires target { has_vertex (graph_of self.old) y ≡ true }
-        ensures said { IfOk result (λ added. added ≡ is_empty_set (label_between (graph_of self.old) x y)) }
-        ensures joined { IfOk result (λ added. MatchBool added (graph_of self.new ≡ with_rights (graph_of self.old) x y rights) (self.new ≡ self.old)) }
-        ensures absent { OnErr result (is_empty_set (label_between (graph_of self.old) x y) ≡ true) }
+        ensures said { IfOk result
+            (λ added. added ≡ is_empty_set (label_between (graph_of self.old) x y)) }
+        ensures joined { IfOk result
+            (λ added. MatchBool added
+            (graph_of self.new ≡ with_rights (graph_of self.old) x y rights)
+            (self.new ≡ self.old)) }
+        ensures absent { OnErr result
+            (is_empty_set (label_between (graph_of self.old) x y) ≡ true) }
         ensures err { OnErr result (self.new ≡ self.old) }
     {
         let Some(row) = self.rows.get_mut(&x) else {

@@ -111,7 +111,8 @@ impl Rights {
     pub fn union(self, other: Rights) -> Rights
         requires named { IsNamed self }
         requires other_named { IsNamed other }
-        ensures members { (right : Right) → member result right ≡ (member self right || member other right) }
+        ensures members { (right : Right)
+            → member result right ≡ (member self right || member other right) }
         ensures bits { result.0 ≡ bit_or self.0 other.0 }
         ensures named { IsNamed result }
     {
@@ -122,7 +123,8 @@ impl Rights {
     pub fn difference(self, other: Rights) -> Rights
         requires named { IsNamed self }
         requires other_named { IsNamed other }
-        ensures set { result ≡ rights_where (λ right. member self right && not (member other right)) }
+        ensures set { result ≡ rights_where
+            (λ right. member self right && not (member other right)) }
         ensures named { IsNamed result }
     {
         Flags::difference(self, other)
@@ -132,7 +134,8 @@ impl Rights {
     pub fn contains(self, other: Rights) -> bool
         requires named { IsNamed self }
         requires other_named { IsNamed other }
-        ensures { IsTrue result ↔ ((right : Right) → member other right ≡ true → member self right ≡ true) }
+        ensures { IsTrue result
+            ↔ ((right : Right) → member other right ≡ true → member self right ≡ true) }
     {
         Flags::contains(&self, other)
     }

@@ -220,8 +220,10 @@ impl<R: Entry> Journal<R> {
         ensures met { IfOk result (λ _. Begins front.now.seen pass.new.seen) }
         ensures longer { IfOk result (λ _.
             length pass.new.seen ≡ max (length pass.old.seen) (length front.now.seen)) }
-        ensures others { IfOk result (λ _. KnowsFromAsBefore (length pass.new.seen) pass.old pass.new) }
-        ensures foreign { IfErr result (λ e. MeetFaultSays R.seat_of e front.now pass.old pass.new) }
+        ensures others { IfOk result
+            (λ _. KnowsFromAsBefore (length pass.new.seen) pass.old pass.new) }
+        ensures foreign { IfErr result
+            (λ e. MeetFaultSays R.seat_of e front.now pass.old pass.new) }
     {
         // Its contract says what is true of each pass, also where the front has nothing.
         let _seen = pass.len();
@@ -247,9 +249,12 @@ impl<R: Entry> Journal<R> {
         ensures known { Remembers pass.old pass.new }
         ensures pass { IsPass R.seat_of pass.new }
         ensures begins { Begins pass.old.seen pass.new.seen }
-        ensures met { IsTrue result → IfSome note.known (λ x. slice_get pass.new.seen place ≡ Some x) }
-        ensures longer { IsTrue result → length pass.new.seen ≡ max (length pass.old.seen) (place + 1) }
-        ensures others { (other : ℕ) → other ≢ place → slice_get pass.new.known other ≡ slice_get pass.old.known other }
+        ensures met { IsTrue result
+            → IfSome note.known (λ x. slice_get pass.new.seen place ≡ Some x) }
+        ensures longer { IsTrue result
+            → length pass.new.seen ≡ max (length pass.old.seen) (place + 1) }
+        ensures others { (other : ℕ) → other ≢ place
+            → slice_get pass.new.known other ≡ slice_get pass.old.known other }
         ensures foreign { IsFalse result →
             (slice_get pass.new.known place ≡ Some note.known) × IsForeign R.seat_of place pass.new }
     {

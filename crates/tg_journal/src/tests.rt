@@ -127,9 +127,11 @@ fn filled(
     q: &mut Pass<Mark>,
     s: &mut Pass<Mark>,
 )
-    requires cells { (p.old.cells ≡ journal.now) × (q.old.cells ≡ journal.now) × (s.old.cells ≡ journal.now) }
+    requires cells { (p.old.cells ≡ journal.now) × (q.old.cells ≡ journal.now)
+        × (s.old.cells ≡ journal.now) }
     requires numbers { (p.old.number ≡ 1) × (q.old.number ≡ 2) }
-    ensures { (p.new.cells ≡ journal.now) × (q.new.cells ≡ journal.now) × (s.new.cells ≡ journal.now) }
+    ensures { (p.new.cells ≡ journal.now) × (q.new.cells ≡ journal.now)
+        × (s.new.cells ≡ journal.now) }
 {
     let (a, b, c) = (
         Mark { seat: 1, number: 7 },

@@ -60,7 +60,8 @@ fn fresh_seats(alloc: Global, opening: &Graph, count: u32) -> Result<Vec<SeatSta
 
 // The place of the seat of a number among so many.
 fn index_of(number: u32, count: usize) -> Option<usize>
-    ensures { MatchOption result ((number ≡ 0) ⊎ (count < number)) (λ i. (i + 1 ≡ number) × (i < count)) }
+    ensures { MatchOption result ((number ≡ 0) ⊎ (count < number))
+        (λ i. (i + 1 ≡ number) × (i < count)) }
 {
     let number = number as usize;
     if number == 0 || number > count {
@@ -92,13 +93,16 @@ fn event_at(
 ) -> HallReply
     requires stageable { IsStageable event.now }
     requires consistent { IsConsistent seat.old }
-    requires answers { IfSome (slice_get records.old.items seat.old.taken) (λ r. AreAnswers (graph_of seat.old.graph) r.steps) }
+    requires answers { IfSome (slice_get records.old.items seat.old.taken)
+        (λ r. AreAnswers (graph_of seat.old.graph) r.steps) }
     requires room { length records.old.items ≤ cells }
     requires cells { cells ≤ most_cells }
     requires within { seat.old.taken ≤ length records.old.items }
     requires counted { seat.old.commits ≡ count_of (seat_in event.now) records.old.items }
-    ensures moves { Moves (graph_of seat.old.graph) cells records.old.items (seen_seat seat.old) event.now result (seen_seat seat.new) records.new.items }
-    ensures rests { (g : ProtectionGraph) → Rests g records.old.items seat.old → Rests g records.new.items seat.new }
+    ensures moves { Moves (graph_of seat.old.graph) cells records.old.items
+        (seen_seat seat.old) event.now result (seen_seat seat.new) records.new.items }
+    ensures rests { (g : ProtectionGraph) → Rests g records.old.items seat.old
+        → Rests g records.new.items seat.new }
     ensures consistent { IsConsistent seat.new }
     ensures counted { seat.new.commits ≡ count_of (seat_in event.now) records.new.items }
     ensures spared { takes_memory event.now ≡ false → is_short_of_memory result ≡ false }
@@ -188,7 +192,8 @@ impl Hall {
     // The seat of a number.
     fn seat(&self, number: u32) -> Option<&SeatState>
         ensures seen { option_map (λ s. seen_seat s.now) result ≡ seat_of self.now number }
-        ensures rests { IfSome result (λ s. Rests (graph_of self.now.opening) self.now.history s.now) }
+        ensures rests { IfSome result
+            (λ s. Rests (graph_of self.now.opening) self.now.history s.now) }
     {
         let i = index_of(number, self.seats.len())?;
         Some(&self.seats[i])
@@ -204,7 +209,8 @@ impl Hall {
 
     /// The graph of the seat of a number: the replay of what it has taken in.
     pub fn graph(&self, seat: u32) -> Option<&Graph>
-        ensures { option_map (λ g. graph_of g.now) result ≡ option_map (rests_on self.now) (seat_of self.now seat) }
+        ensures { option_map (λ g. graph_of g.now) result
+            ≡ option_map (rests_on self.now) (seat_of self.now seat) }
     {
         let seat = self.seat(seat)?;
         Some(seat.graph())
@@ -228,7 +234,8 @@ impl Hall {
 
     /// The replay of the whole history, which is legal.
     pub fn last(&self) -> Result<Graph, AllocError>
-        ensures graph { IfOk result (λ graph. graph_of graph ≡ replay (graph_of self.now.opening) self.now.history) }
+        ensures graph { IfOk result
+            (λ graph. graph_of graph ≡ replay (graph_of self.now.opening) self.now.history) }
         ensures legal { IsLegal (graph_of self.now.opening) self.now.history }
     {
         match self.seat(self.furthest()) {

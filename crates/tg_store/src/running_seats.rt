@@ -236,10 +236,12 @@ impl Seat {
     // one that got there first. All room is made before.
     pub(crate) fn offer(self, journal: &Journal<Record>, stored: &Record, draft: Draft) -> Offered
         requires cells { self.pass.cells ≡ journal.now }
-        requires number { (stored.now.seat ≡ self.pass.number) × (stored.now.number ≡ length self.pass.mine) }
+        requires number { (stored.now.seat ≡ self.pass.number)
+            × (stored.now.number ≡ length self.pass.mine) }
         requires answers { AreAnswers (graph_of self.graph) stored.now.steps }
         requires fits { Fits self.graph draft }
-        requires laid { drafted self.graph draft ≡ after_steps (graph_of self.graph) stored.now.steps }
+        requires laid { drafted self.graph draft
+            ≡ after_steps (graph_of self.graph) stored.now.steps }
         requires all { self.taken ≡ length self.pass.seen }
         ensures { OfferSays self draft stored.now result }
     {

@@ -63,8 +63,12 @@ impl Session {
     /// Stages a step, and answers it. Where memory is refused, nothing is staged.
     pub fn step(&mut self, step: Step) -> Result<Reply, AllocError>
         requires { IsNamedStep step }
-        ensures reply { IfOk result (λ reply. IsAnswer (after_steps (graph_of self.old.seat.graph) self.old.steps) step reply) }
-        ensures steps { IfOk result (λ reply. self.new.steps ≡ self.old.steps ++ (record { step = step; reply = reply }) ∷ []) }
+        ensures reply { IfOk result
+            (λ reply. IsAnswer (after_steps (graph_of self.old.seat.graph) self.old.steps) step
+            reply) }
+        ensures steps { IfOk result
+            (λ reply. self.new.steps ≡ self.old.steps ++ (record { step = step; reply = reply })
+            ∷ []) }
         ensures seat { self.new.seat ≡ self.old.seat }
         ensures err { OnErr result (self.new ≡ self.old) }
         ensures session { IsSession self.new }

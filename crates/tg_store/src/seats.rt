@@ -65,8 +65,12 @@ impl OpenSession {
     pub(crate) fn stage(&mut self, base: &Graph, step: &Step) -> Result<Reply, AllocError>
         requires on { IsSessionOn base.now self.old }
         requires named { IsNamedStep step.now }
-        ensures reply { IfOk result (λ reply. IsAnswer (after_steps (graph_of base.now) self.old.kept.items) step.now reply) }
-        ensures kept { IfOk result (λ reply. self.new.kept.items ≡ self.old.kept.items ++ (record { step = step.now; reply = reply }) ∷ []) }
+        ensures reply { IfOk result
+            (λ reply. IsAnswer (after_steps (graph_of base.now) self.old.kept.items) step.now
+            reply) }
+        ensures kept { IfOk result
+            (λ reply. self.new.kept.items ≡ self.old.kept.items
+            ++ (record { step = step.now; reply = reply }) ∷ []) }
         ensures err { OnErr result (self.new.kept.items ≡ self.old.kept.items) }
         ensures on { IsSessionOn base.now self.new }
     {
@@ -119,7 +123,9 @@ impl SeatState {
     /// left.
     pub fn replayed(&self, records: &[Record]) -> Result<Graph, AllocError>
         requires { self.now.taken ≤ length records.now }
-        ensures { IfOk result (λ graph. (g : ProtectionGraph) → Rests g records.now self.now → graph_of graph ≡ replay g records.now) }
+        ensures { IfOk result
+            (λ graph. (g : ProtectionGraph) → Rests g records.now self.now
+            → graph_of graph ≡ replay g records.now) }
     {
         replays::replayed(&self.graph, &records[self.taken..])
     }
@@ -167,7 +173,8 @@ impl SeatState {
     pub fn stage(&mut self, step: Step) -> HallReply
         requires consistent { IsConsistent self.old }
         requires named { IsNamedStep step }
-        ensures stages { Stages (graph_of self.old.graph) step (seen_seat self.old) result (seen_seat self.new) }
+        ensures stages { Stages (graph_of self.old.graph) step (seen_seat self.old) result
+            (seen_seat self.new) }
         ensures graph { self.new.graph ≡ self.old.graph }
         ensures consistent { IsConsistent self.new }
         ensures commits { self.new.commits ≡ self.old.commits }
@@ -207,8 +214,10 @@ impl SeatState {
     fn lay(&mut self, committed: &[Answered]) -> Result<(), AllocError>
         requires consistent { IsConsistent self.old }
         requires named { All (λ a. IsNamedStep a.step) committed.now }
-        requires clear { IsClear (graph_of self.old.graph) committed.now (seen_seat self.old).session }
-        ensures graph { OnOk result (graph_of self.new.graph ≡ after_steps (graph_of self.old.graph) committed.now) }
+        requires clear { IsClear (graph_of self.old.graph) committed.now
+            (seen_seat self.old).session }
+        ensures graph { OnOk result
+            (graph_of self.new.graph ≡ after_steps (graph_of self.old.graph) committed.now) }
         ensures err { OnErr result (self.new.graph ≡ self.old.graph) }
         ensures seen { seen_seat self.new ≡ seen_seat self.old }
         ensures consistent { IsConsistent self.new }
@@ -225,11 +234,14 @@ impl SeatState {
     fn advance(&mut self, next: &Record) -> Result<(), AllocError>
         requires consistent { IsConsistent self.old }
         requires answers { AreAnswers (graph_of self.old.graph) next.now.steps }
-        requires clear { IsClear (graph_of self.old.graph) next.now.steps (seen_seat self.old).session }
+        requires clear { IsClear (graph_of self.old.graph) next.now.steps
+            (seen_seat self.old).session }
         requires room { self.old.taken < most_cells }
-        ensures graph { OnOk result (graph_of self.new.graph ≡ after_steps (graph_of self.old.graph) next.now.steps) }
+        ensures graph { OnOk result
+            (graph_of self.new.graph ≡ after_steps (graph_of self.old.graph) next.now.steps) }
         ensures seen { OnOk result (seen_seat self.new ≡ one_further (seen_seat self.old)) }
-        ensures err { OnErr result ((self.new.graph ≡ self.old.graph) × (seen_seat self.new ≡ seen_seat self.old)) }
+        ensures err { OnErr result
+            ((self.new.graph ≡ self.old.graph) × (seen_seat self.new ≡ seen_seat self.old)) }
         ensures consistent { IsConsistent self.new }
         ensures commits { self.new.commits ≡ self.old.commits }
     {
@@ -246,7 +258,8 @@ impl SeatState {
         requires consistent { IsConsistent self.old }
         requires answers { AreAnswers (graph_of self.old.graph) next.now.steps }
         requires room { self.old.taken < most_cells }
-        ensures takes { TakesIn (graph_of self.old.graph) next.now (seen_seat self.old) result (seen_seat self.new) }
+        ensures takes { TakesIn (graph_of self.old.graph) next.now (seen_seat self.old) result
+            (seen_seat self.new) }
         ensures rests { (g : ProtectionGraph) (history : List Record) → slice_get history self.old.taken ≡ Some next.now
             → Rests g history self.old → Rests g history self.new }
         ensures consistent { IsConsistent self.new }
@@ -266,10 +279,13 @@ impl SeatState {
     /// Takes in the next record, if there is one, unless it ends the open session.
     pub fn learn(&mut self, records: &[Record]) -> HallReply
         requires consistent { IsConsistent self.old }
-        requires answers { IfSome (slice_get records.now self.old.taken) (λ r. AreAnswers (graph_of self.old.graph) r.steps) }
+        requires answers { IfSome (slice_get records.now self.old.taken)
+            (λ r. AreAnswers (graph_of self.old.graph) r.steps) }
         requires room { length records.now ≤ most_cells }
-        ensures learns { Learns (graph_of self.old.graph) (slice_get records.now self.old.taken) (seen_seat self.old) result (seen_seat self.new) }
-        ensures rests { (g : ProtectionGraph) → Rests g records.now self.old → Rests g records.now self.new }
+        ensures learns { Learns (graph_of self.old.graph) (slice_get records.now self.old.taken)
+            (seen_seat self.old) result (seen_seat self.new) }
+        ensures rests { (g : ProtectionGraph) → Rests g records.now self.old
+            → Rests g records.now self.new }
         ensures consistent { IsConsistent self.new }
         ensures commits { self.new.commits ≡ self.old.commits }
     {
@@ -290,7 +306,8 @@ impl SeatState {
         requires all_taken { self.old.taken ≡ length records.old.items }
         ensures joins { IfSome (seen_seat self.old).session (λ steps.
             Joins cells number records.old.items steps (seen_seat self.old) result (seen_seat self.new) records.new.items) }
-        ensures rests { (g : ProtectionGraph) → Rests g records.old.items self.old → Rests g records.new.items self.new }
+        ensures rests { (g : ProtectionGraph) → Rests g records.old.items self.old
+            → Rests g records.new.items self.new }
         ensures consistent { IsConsistent self.new }
         ensures counted { self.new.commits ≡ count_of number records.new.items }
     {
@@ -323,12 +340,15 @@ impl SeatState {
     pub fn put(&mut self, number: u32, cells: usize, records: &mut Vec<Record>) -> HallReply
         requires consistent { IsConsistent self.old }
         requires counted { self.old.commits ≡ count_of number records.old.items }
-        requires answers { IfSome (slice_get records.old.items self.old.taken) (λ r. AreAnswers (graph_of self.old.graph) r.steps) }
+        requires answers { IfSome (slice_get records.old.items self.old.taken)
+            (λ r. AreAnswers (graph_of self.old.graph) r.steps) }
         requires room { length records.old.items ≤ cells }
         requires cells { cells ≤ most_cells }
         requires within { self.old.taken ≤ length records.old.items }
-        ensures puts { Puts (graph_of self.old.graph) cells number records.old.items (seen_seat self.old) result (seen_seat self.new) records.new.items }
-        ensures rests { (g : ProtectionGraph) → Rests g records.old.items self.old → Rests g records.new.items self.new }
+        ensures puts { Puts (graph_of self.old.graph) cells number records.old.items
+            (seen_seat self.old) result (seen_seat self.new) records.new.items }
+        ensures rests { (g : ProtectionGraph) → Rests g records.old.items self.old
+            → Rests g records.new.items self.new }
         ensures consistent { IsConsistent self.new }
         ensures counted { self.new.commits ≡ count_of number records.new.items }
     {

@@ -63,7 +63,8 @@ fn is_done(reply: &Reply) -> bool
 
 /// The first name that one true answer tells was written and that the session touches.
 pub fn spoiler_in(answered: &Answered, session: &[Answered]) -> Option<Name>
-    ensures { result ≡ find (touches session.now) (told_writes answered.now.step answered.now.reply) }
+    ensures { result ≡ find (touches session.now)
+        (told_writes answered.now.step answered.now.reply) }
 {
     if !is_done(&answered.reply) {
         return None;

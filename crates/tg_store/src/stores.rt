@@ -65,7 +65,8 @@ fn seats_of(
     passes: Vec<Pass<Record>>,
 ) -> Result<Vec<Seat>, AllocError>
     requires { All (λ p. IsPass seat_number p × (p.seen ≡ []) × (p.mine ≡ [])) passes.items }
-    ensures { IfOk result (λ seats. seats.items ≡ map (seat_from (arc_value opening.now)) passes.items) }
+    ensures { IfOk result
+        (λ seats. seats.items ≡ map (seat_from (arc_value opening.now)) passes.items) }
 {
     let mut seats = Vec::with_capacity(alloc, passes.len())?;
     for pass in passes {
@@ -93,7 +94,8 @@ impl Store {
         ensures cells { IfOk result (λ r. length r.0.cells ≡ cells) }
         ensures count { IfOk result (λ r. length r.1.items ≡ seats) }
         ensures each { IfOk result (λ r. All IsSeat r.1.items) }
-        ensures seats { IfOk result (λ r. (k : ℕ) → k < seats → slice_get r.1.items k ≡ Some (first_seat r.0 (k + 1))) }
+        ensures seats { IfOk result
+            (λ r. (k : ℕ) → k < seats → slice_get r.1.items k ≡ Some (first_seat r.0 (k + 1))) }
     {
         if graph.len() > MOST_VERTICES {
             return Err(StoreFault::TooManyVertices);
@@ -149,7 +151,9 @@ impl Store {
         requires seat { IsOf self.now seat.old }
         requires front { front.now.cells ≡ take (length front.now.seen) self.now.cells }
         ensures goes_on { GoesOn seat.old seat.new × PutsNothing seat.old seat.new }
-        ensures met { IfOk result (λ _. Begins front.now.seen seat.new.pass.seen × (seat.new.taken ≡ length seat.new.pass.seen)) }
+        ensures met { IfOk result
+            (λ _. Begins front.now.seen seat.new.pass.seen
+            × (seat.new.taken ≡ length seat.new.pass.seen)) }
         ensures refused { IfErr result (λ fault. MeetFaultSays fault seat.new) }
         ensures seat { IsSeat seat.new }
     {
@@ -174,7 +178,8 @@ impl Store {
     fn same_at(&self, one: &Seat, other: &Seat, place: usize) -> bool
         requires seats { IsOf self.now one.now × IsOf self.now other.now }
         requires seen { (place < length one.now.pass.seen) × (place < length other.now.pass.seen) }
-        ensures { IsTrue result ↔ (slice_get other.now.pass.seen place ≡ slice_get one.now.pass.seen place) }
+        ensures { IsTrue result
+            ↔ (slice_get other.now.pass.seen place ≡ slice_get one.now.pass.seen place) }
     {
         let Some(stored) = self.at(one, place) else {
             unreachable!()
@@ -206,7 +211,8 @@ impl Store {
     fn is_own_at(&self, seat: &Seat, place: usize, seats: &[Seat]) -> bool
         requires seat { IsOf self.now seat.now }
         requires seen { place < length seat.now.pass.seen }
-        ensures { IfSome (slice_get seat.now.pass.seen place) (λ (r : Record). result ≡ has_number seats.now r.seat) }
+        ensures { IfSome (slice_get seat.now.pass.seen place)
+            (λ (r : Record). result ≡ has_number seats.now r.seat) }
     {
         let Some(stored) = self.at(seat, place) else {
             unreachable!()
@@ -231,7 +237,9 @@ impl Store {
     fn all_same(&self, first: &Seat, seats: &[Seat]) -> bool
         requires first { IsOf self.now first.now }
         requires seats { All (IsOf self.now) seats.now }
-        ensures { IsTrue result ↔ ((i : ℕ) (s : RunningSeat) → slice_get seats.now i ≡ Some s → s.pass.seen ≡ first.now.pass.seen) }
+        ensures { IsTrue result
+            ↔ ((i : ℕ) (s : RunningSeat) → slice_get seats.now i ≡ Some s
+            → s.pass.seen ≡ first.now.pass.seen) }
     {
         for seat in seats {
             if !self.same_seen(first, seat) {
@@ -248,7 +256,8 @@ impl Store {
     pub fn agreed(&self, seats: &[Seat]) -> bool
         requires { All (IsOf self.now) seats.now }
         ensures agreed { IsTrue result ↔ AreAgreed seats.now }
-        ensures legal { IsTrue result → All (λ s. IsLegal (graph_of self.now.opening) s.pass.seen) seats.now }
+        ensures legal { IsTrue result
+            → All (λ s. IsLegal (graph_of self.now.opening) s.pass.seen) seats.now }
     {
         if seats.is_empty() {
             return false;

@@ -34,10 +34,14 @@ fn lay_watched(
 ) -> Result<Option<Name>, AllocError>
     requires fits { Fits base.now draft.old }
     requires named { IsNamedStep step.now }
-    ensures laid { OnOk result (drafted base.now draft.new ≡ after_step (drafted base.now draft.old) step.now) }
-    ensures rows { OnOk result (GainsRows draft.old (step_writes (drafted base.now draft.old) step.now) draft.new) }
+    ensures laid { OnOk result
+        (drafted base.now draft.new ≡ after_step (drafted base.now draft.old) step.now) }
+    ensures rows { OnOk result
+        (GainsRows draft.old (step_writes (drafted base.now draft.old) step.now) draft.new) }
     ensures fits { Fits base.now draft.new }
-    ensures name { IfOk result (λ name. name ≡ find (touches session.now) (step_writes (drafted base.now draft.old) step.now)) }
+    ensures name { IfOk result
+        (λ name. name ≡ find (touches session.now)
+        (step_writes (drafted base.now draft.old) step.now)) }
 {
     match *step {
         Step::Do(rule) => {
@@ -58,7 +62,8 @@ fn lay_all_watched(
 ) -> Result<Option<Name>, AllocError>
     requires empty { draft.old ≡ ([], []) }
     requires named { All (λ a. IsNamedStep a.step) committed.now }
-    ensures name { IfOk result (λ name. name ≡ spoiler (graph_of base.now) committed.now session.now) }
+    ensures name { IfOk result
+        (λ name. name ≡ spoiler (graph_of base.now) committed.now session.now) }
     ensures drawn { IfOk result (λ name. name ≡ None → IsDraftOf base.now committed.now draft.new) }
 {
     for answered in committed {

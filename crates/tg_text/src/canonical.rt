@@ -17,7 +17,8 @@ const LONGEST_EDGE_LINE: usize = 45;
 
 /// The names of the vertices of a graph in name order, each once. The error is want of memory.
 pub fn names_in_order(alloc: Global, graph: &Graph) -> Result<Vec<Name>, AllocError>
-    ensures names { IfOk result (λ names. names.items ≡ in_name_order (graph_of graph.now).vertices) }
+    ensures names { IfOk result
+        (λ names. names.items ≡ in_name_order (graph_of graph.now).vertices) }
     ensures graph { IsGraph graph.now }
 {
     let mut names = Vec::with_capacity(alloc, graph.len())?;

@@ -65,7 +65,8 @@ fn word_len(bytes: &[u8]) -> usize
 ///
 /// No memory is taken.
 pub fn cut_word(bytes: &[u8]) -> Option<(&[u8], &[u8])>
-    ensures cut { MatchOption result (words_of bytes.now ≡ []) (λ cut. words_of bytes.now ≡ cut.0.now ∷ words_of cut.1.now) }
+    ensures cut { MatchOption result (words_of bytes.now ≡ [])
+        (λ cut. words_of bytes.now ≡ cut.0.now ∷ words_of cut.1.now) }
     ensures shorter { IfSome result (λ cut. length cut.1.now < length bytes.now) }
 {
     let start = blanks(bytes);

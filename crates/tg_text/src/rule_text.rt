@@ -96,7 +96,8 @@ pub fn read_rule(line: &[u8]) -> Result<Rule, TextKind>
 #[tactic(auto, unfolding(crate::specs::RuleText::rule_line, crate::specs::RuleText::rule_item))]
 fn add_rule(rules: &mut Vec<RuleLine>, line: usize, words: &[u8]) -> Result<(), LineFault>
     requires { AreNamedLines rules.old.items }
-    ensures made { Makes (rule_item line rules.old.items (words_of words.now)) result rules.new.items }
+    ensures made { Makes (rule_item line rules.old.items (words_of words.now)) result
+        rules.new.items }
     ensures named { OnOk result (AreNamedLines rules.new.items) }
 {
     let rule = rule_of_words(words)?;

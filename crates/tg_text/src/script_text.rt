@@ -134,7 +134,8 @@ fn push_event(
 ) -> Result<(), LineFault>
     requires named { IsNamedAct act }
     requires all_named { AreNamedEvents lines.old.items }
-    ensures made { Makes (with_item most_entries lines.old.items (Ok (record { line = line; seat = seat; act = act }))) result lines.new.items }
+    ensures made { Makes (with_item most_entries lines.old.items
+        (Ok (record { line = line; seat = seat; act = act }))) result lines.new.items }
     ensures named { OnOk result (AreNamedEvents lines.new.items) }
 {
     if lines.len() >= MOST_ENTRIES {
@@ -162,7 +163,8 @@ fn add_event(
     words: &[u8],
 ) -> Result<(), LineFault>
     requires { AreNamedEvents lines.old.items }
-    ensures made { Makes (event_item line seats lines.old.items (words_of words.now)) result lines.new.items }
+    ensures made { Makes (event_item line seats lines.old.items (words_of words.now)) result
+        lines.new.items }
     ensures named { OnOk result (AreNamedEvents lines.new.items) }
 {
     match event_of_words(line, seats, words) {
