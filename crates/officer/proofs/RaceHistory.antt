@@ -1,7 +1,6 @@
 -- The history of a race, and the commits of which lines tell.
-use Rattle.std.proofs.Common.{◌≡◌, ◌⊎◌, inl, inr, ℕ, zero, suc, ◌+◌, ◌<◌, ◌≤◌, List, [], ◌∷◌, ◌++◌, All, Contains, Ok, Some, length, map, take, get_or, refl, sym, ap, subst, ◌∙◌, arith}
+use Rattle.std.proofs.Common.{◌≡◌, inl, inr, ℕ, zero, suc, ◌+◌, ◌<◌, ◌≤◌, List, [], ◌∷◌, ◌++◌, All, Some, length, take, get_or, refl, sym, ap, subst, ◌∙◌, arith}
 use Rattle.std.specs.Prelude.{slice_get, ⊤}
-use Rattle.std.specs.List.{flat_map}
 use Rattle.std.proofs.lemmas.List.{length-append, length-take, take-take, take_all, take_more}
 use Rattle.std.proofs.lemmas.List.Elements.{All-nil, All-cons, All-append}
 use Rattle.std.proofs.lemmas.Option.{slice_get_within}
@@ -21,7 +20,7 @@ use Rattle.tg_store.specs.declared.outcomes.Committed.{Committed}
 use Rattle.tg_store.specs.declared.outcomes.Committed.TheVariants as committed
 use Rattle.tg_store.specs.declared.outcomes.CommitFault.TheVariants as commit
 use Rattle.tg_store.specs.Answers.{AreAnswers}
-use Rattle.tg_store.specs.Histories.{replay, IsLegal}
+use Rattle.tg_store.specs.Histories.{replay}
 use Rattle.tg_store.specs.Running.{RunningStore, RunningSeat, RunningSession, IsSeat, GoesOn, first_seat, seen_graph}
 use Rattle.tg_store.specs.Outcomes.{BeginSays, CommitSays, IsPut}
 use Rattle.tg_store.proofs.RunningSeats.{begins-take, begins-get, begins-trans, get-push, goes_on-refl}

@@ -1,5 +1,5 @@
 -- The report of a race, from what its threads brought back.
-use Rattle.std.proofs.Common.{◌≡◌, ◌⊎◌, inl, inr, ℕ, zero, suc, ◌+◌, ◌<◌, List, [], ◌∷◌, ◌++◌, All, Ok, Some, Result, length, map, take, get_or, refl, sym, ap, subst, ◌∙◌, arith}
+use Rattle.std.proofs.Common.{◌≡◌, ◌⊎◌, inl, inr, ℕ, zero, suc, ◌+◌, ◌<◌, List, [], ◌∷◌, ◌++◌, All, Ok, Some, Result, length, map, get_or, refl, sym, ap, subst, ◌∙◌, arith}
 use Rattle.std.specs.Prelude.{slice_get, remove}
 use Rattle.std.specs.List.{flat_map}
 use Rattle.std.specs.Option.{option_map}
@@ -13,7 +13,6 @@ use Rattle.tg_graph.specs.GraphOf.{graph_of}
 use Rattle.tg_text.specs.declared.script_text.ScriptLine.{ScriptLine}
 use Rattle.tg_text.specs.ScriptText.{ScriptOf}
 use Rattle.tg_journal.specs.Lists.{Begins}
-use Rattle.tg_store.specs.declared.records.Record.{Record}
 use Rattle.tg_store.specs.declared.outcomes.StoreMeetFault.{StoreMeetFault}
 use Rattle.tg_store.specs.Histories.{replay}
 use Rattle.tg_store.specs.Outcomes.{MeetFaultSays}
@@ -23,7 +22,7 @@ use Rattle.officer.specs.declared.race.Finished.{Finished}
 use Rattle.officer.specs.declared.turns.Player.{Player}
 use Rattle.officer.specs.declared.turns.Player.TheVariants.{Free}
 use Rattle.officer.specs.Readings.{ReportText}
-use Rattle.officer.specs.Races.{seat_at, events_of, graph_report, foreign_report, race_outcomes, taken_in, TakesTurns, SeatPlay, IsPlay, IsHistory, EndsInGraph, EndsInForeign, IsRaced}
+use Rattle.officer.specs.Races.{seat_at, events_of, graph_report, foreign_report, race_outcomes, taken_in, TakesTurns, SeatPlay, IsPlay, EndsInGraph, EndsInForeign, IsRaced}
 use Rattle.officer.specs.RaceParts.{IsFinished, AreFinished, AreGathered, EndsInFault, EndsSo, EndsRace}
 use Rattle.officer.proofs.RaceTurns.{turns-go_on, still-of}
 use Rattle.officer.proofs.RaceHistory.{taken-begins_seen, taken-goes_on, history-is}

@@ -1,5 +1,5 @@
 -- The turns of a seat, one after another.
-use Rattle.std.proofs.Common.{◌≡◌, ◌⊎◌, inl, inr, ℕ, ◌+◌, ◌<◌, ◌==◌, Bool, true, false, List, [], ◌∷◌, ◌++◌, length, take, get_or, refl, sym, ap, subst, ◌∙◌, append_assoc}
+use Rattle.std.proofs.Common.{◌≡◌, inl, inr, ℕ, ◌+◌, ◌<◌, ◌==◌, Bool, true, false, List, [], ◌∷◌, ◌++◌, length, take, get_or, refl, sym, ap, subst, ◌∙◌, append_assoc}
 use Rattle.std.specs.Prelude.{if◌then◌else◌}
 use Rattle.std.proofs.lemmas.List.{append-nil, take_more}
 use Rattle.std.proofs.lemmas.List.Elements.{filter-append}
@@ -18,7 +18,7 @@ use Rattle.officer.specs.declared.turns.Player.{Player}
 use Rattle.officer.specs.declared.turns.Player.TheVariants.{Free, Open}
 use Rattle.officer.specs.declared.turns.RaceReply.{RaceReply}
 use Rattle.officer.specs.Races.{seat_at, begun_player, committed_player, with_step, Stages, Turns, TakesTurns, events_of, race_line, race_lines}
-use Rattle.officer.specs.RaceParts.{TurnsOn, TurnsIf, HasPlayedTurns}
+use Rattle.officer.specs.RaceParts.{TurnsIf, HasPlayedTurns}
 
 -- ---- a seat goes on
 goes_to : (s : RunningSeat) (p q : Player) → q ≡ p → GoesOn s (seat_at p) → GoesOn s (seat_at q)

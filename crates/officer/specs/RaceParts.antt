@@ -1,5 +1,5 @@
 -- What the parts of a race's making bring.
-use Rattle.std.specs.Prelude.{◌≡◌, ◌⊎◌, ◌∷◌, ◌==◌, ◌<◌, ⊤, ℕ, Bool, true, false, List, [], ◌++◌, All, IfOk, Ok, Result, length, map, slice_index_or}
+use Rattle.std.specs.Prelude.{◌≡◌, ◌⊎◌, ◌∷◌, ◌<◌, ⊤, ℕ, Bool, true, false, List, ◌++◌, All, IfOk, Ok, Result, length, map, slice_index_or}
 use Rattle.std.specs.List.{flat_map}
 use Rattle.std.specs.declared.alloc.AllocError.{AllocError}
 use Rattle.tg_text.specs.declared.script_text.ScriptLine.{ScriptLine}

@@ -1,5 +1,4 @@
-use Rattle.std.proofs.Common.{◌≡◌, ◌++◌, ◌∷◌, [], Ok, map, sym, ap, ◌∙◌}
-use Rattle.std.specs.List.{flat_map}
+use Rattle.std.proofs.Common.{◌++◌, ap, ◌∙◌}
 use Rattle.officer.proofs.RaceReports.{gathered-more}
 use Rattle.officer.proofs.race.gather.Goals as goal
 

@@ -1,4 +1,3 @@
-use Rattle.std.proofs.Common.{◌≡◌}
 use Rattle.officer.specs.RaceParts.{AreGathered}
 use Rattle.officer.proofs.race.gather.Given as goal
 

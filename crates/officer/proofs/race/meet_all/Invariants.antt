@@ -1,6 +1,6 @@
-use Rattle.std.proofs.Common.{◌≡◌, take, All}
+use Rattle.std.proofs.Common.{take, All}
 use Rattle.tg_journal.specs.Lists.{Begins}
-use Rattle.tg_store.specs.Running.{IsOf, GoesOn}
+use Rattle.tg_store.specs.Running.{GoesOn}
 use Rattle.officer.specs.Races.{taken_in}
 use Rattle.officer.proofs.race.meet_all.Given as goal
 

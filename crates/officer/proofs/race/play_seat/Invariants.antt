@@ -1,4 +1,4 @@
-use Rattle.std.proofs.Common.{◌≡◌, take}
+use Rattle.std.proofs.Common.{take}
 use Rattle.tg_store.specs.Running.{IsOf}
 use Rattle.officer.specs.Races.{seat_at, events_of}
 use Rattle.officer.specs.RaceParts.{HasPlayedTurns}
