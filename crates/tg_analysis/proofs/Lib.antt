@@ -27,3 +27,6 @@ pub mod Linked
 pub mod FloodSteps
 pub mod Numbered
 pub mod Holders
+pub mod JoinedHoldings
+pub mod Gathered
+pub mod Blocked
