@@ -47,7 +47,7 @@ impl PairTable {
     pub fn cell(&self, i: usize, j: usize) -> Option<bool>
         ensures { result ≡ table_cell self.now i j }
     {
-        if j >= self.islands.len() {
+        if j >= self.len() {
             return None;
         }
         let number = self.islands.of(i)?;
