@@ -1,11 +1,12 @@
 -- The steps of a flood.
-use Rattle.std.proofs.Common.{◌≡◌, ℕ, ◌<◌, true, false, List, [], ◌∷◌, ◌++◌, Option, Some, None, refl, sym, ap, subst, ◌∙◌, nat_eq, is_some, length, get_or, true≢false, inl, inr, ◌⊎◌}
+use Rattle.std.proofs.Common.{◌≡◌, ℕ, ◌+◌, ◌<◌, ◌≤◌, true, false, List, [], ◌∷◌, ◌++◌, Option, Some, None, refl, sym, ap, subst, ◌∙◌, nat_eq, is_some, length, get_or, arith, true≢false, inl, inr, ◌⊎◌}
 use Rattle.std.specs.List.{list_any}
-use Rattle.std.proofs.lemmas.Bool.{eqb-true, eq-eqb, or_cases, or_left, or_right}
+use Rattle.std.proofs.lemmas.Bool.{cases_lt, eqb-true, eq-eqb, or_cases, or_left, or_right}
 use Rattle.std.proofs.lemmas.List.Folds.{list_any-append, list_any_at}
 use Rattle.tg_analysis.specs.declared.flooding.Flood.{Flood}
-use Rattle.tg_analysis.specs.Linked.{NeighbourLists, neighbours, is_near}
-use Rattle.tg_analysis.specs.Flooding.{number_at, IsOneOf, HasWay, Meets, FloodsSoFar}
+use Rattle.tg_graph.specs.Rows.{Entries}
+use Rattle.tg_analysis.specs.Linked.{NeighbourLists, neighbours, is_near, linked_end}
+use Rattle.tg_analysis.specs.Flooding.{number_at, IsOneOf, HasWay, Meets, MeetsEnd, MeetsEnds, FloodsSoFar}
 
 -- a number that was given stays
 abbrev pub Kept : Flood → Flood → Type 0
@@ -19,7 +20,7 @@ module _ (s t : Flood) (kept : Kept s t) (a : ℕ) where
       by None p = p
       by (Some m) p = absurd (true≢false (sym (ap is_some (kept a m p)) ∙ ap is_some e))
 
-  some_kept : is_some (number_at s a) ≡ true → is_some (number_at t a) ≡ true
+  pub some_kept : is_some (number_at s a) ≡ true → is_some (number_at t a) ≡ true
   some_kept h = by (number_at s a) refl h
     where
       by : (o : Option ℕ) → number_at s a ≡ o → is_some o ≡ true → is_some (number_at t a) ≡ true
@@ -29,10 +30,10 @@ module _ (s t : Flood) (kept : Kept s t) (a : ℕ) where
 pub one_of-append : (a : ℕ) (xs ys : List ℕ) → IsOneOf a (xs ++ ys) → IsOneOf a xs ⊎ IsOneOf a ys
 one_of-append a xs ys h = or_cases (list_any (nat_eq a) xs) (list_any (nat_eq a) ys) (sym (list_any-append (nat_eq a) xs ys) ∙ h)
 
-one_of-left : (a : ℕ) (xs ys : List ℕ) → IsOneOf a xs → IsOneOf a (xs ++ ys)
+pub one_of-left : (a : ℕ) (xs ys : List ℕ) → IsOneOf a xs → IsOneOf a (xs ++ ys)
 one_of-left a xs ys h = list_any-append (nat_eq a) xs ys ∙ or_left (list_any (nat_eq a) xs) (list_any (nat_eq a) ys) h
 
-one_of-right : (a : ℕ) (xs ys : List ℕ) → IsOneOf a ys → IsOneOf a (xs ++ ys)
+pub one_of-right : (a : ℕ) (xs ys : List ℕ) → IsOneOf a ys → IsOneOf a (xs ++ ys)
 one_of-right a xs ys h = list_any-append (nat_eq a) xs ys ∙ or_right (list_any (nat_eq a) xs) (list_any (nat_eq a) ys) h
 
 pub one_of-single : (a b : ℕ) → IsOneOf a (b ∷ []) → a ≡ b
@@ -102,6 +103,41 @@ module _ (ps : List ℕ) (p : ℕ) (s t u : Flood) (m : Meets ps s t) (n : Meets
     met = λ a h. met_both a (one_of-append a ps (p ∷ []) h);
     work = n.work ∙ m.work;
   }
+
+-- ---- the ends of the edges of a row
+pub ends-none : (es : Entries) (a : ℕ) (s : Flood) → MeetsEnds es a 0 s s
+ends-none es a s = record { positions = []; all = λ place b h e. absurd (omega arith); only = λ b h. absurd (true≢false (sym h)); meets = meets-none s }
+
+pub ends-next : (es : Entries) (a here : ℕ) (s t u : Flood) → MeetsEnds es a here s t → MeetsEnd es a here t u → MeetsEnds es a (here + 1) s u
+ends-next es a here s t u m e = go (linked_end es a here) refl
+  where
+    go : (o : Option ℕ) → linked_end es a here ≡ o → MeetsEnds es a (here + 1) s u
+    go None none = subst (λ v. MeetsEnds es a (here + 1) s v) (sym (e.kept none)) (record { positions = m.positions; all = λ place b h is. all place b is (cases_lt place here) h; only = m.only; meets = m.meets })
+      where
+        all : (place b : ℕ) → linked_end es a place ≡ Some b → (place < here) ⊎ (here ≤ place) → place < here + 1 → IsOneOf b m.positions
+        all place b is (inl lt) h = m.all place b lt is
+        all place b is (inr le) h =
+            let same : here ≡ place = omega arith in
+            let there : linked_end es a place ≡ None = subst (λ k. linked_end es a k ≡ None) same none in
+            absurd (cc)
+    go (Some end) some = record {
+      positions = m.positions ++ end ∷ [];
+      all = λ place b h is. all place b is (cases_lt place here) h;
+      only = λ b h. only b (one_of-append b m.positions (end ∷ []) h);
+      meets = meets-more m.positions end s t u m.meets (e.met end some);
+    }
+      where
+        all : (place b : ℕ) → linked_end es a place ≡ Some b → (place < here) ⊎ (here ≤ place) → place < here + 1 → IsOneOf b (m.positions ++ end ∷ [])
+        all place b is (inl lt) h = one_of-left b m.positions (end ∷ []) (m.all place b lt is)
+        all place b is (inr le) h =
+            let same : here ≡ place = omega arith in
+            let there : linked_end es a place ≡ Some end = subst (λ k. linked_end es a k ≡ Some end) same some in
+            let ends : end ≡ b = cc in
+            one_of-right b m.positions (end ∷ []) (subst (λ n. IsOneOf b (n ∷ [])) (sym ends) (single-one_of b))
+
+        only : (b : ℕ) → IsOneOf b m.positions ⊎ IsOneOf b (end ∷ []) → (place : ℕ) × (linked_end es a place ≡ Some b)
+        only b (inl h) = m.only b h
+        only b (inr h) = (here, some ∙ ap Some (sym (one_of-single b end h)))
 
 -- ---- one position after another
 -- the last of those that wait is taken out

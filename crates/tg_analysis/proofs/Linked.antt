@@ -16,6 +16,7 @@ use Rattle.tg_graph.specs.GraphOf.{graph_of}
 use Rattle.tg_graph.specs.Rows.{Edges, Entries, IsGraph, row_number}
 use Rattle.tg_analysis.specs.Sharing.{linked}
 use Rattle.tg_analysis.specs.Linked.{NeighbourLists, is_near, AreLinks, JoinsNeighbours, linked_end, IsBefore, LinksUpTo}
+use Rattle.tg_analysis.proofs.OneIsland.{linked_sym}
 use Rattle.tg_analysis.proofs.Places.{position-at, at-position, holds-place, place-holds}
 
 -- ---- one more edge
@@ -114,12 +115,20 @@ end_of es a place b h =
     ∙ ap (λ t. cond t (position (bytes_eq h.name) (keys_of es)) None) h.ties
     ∙ h.known
 
+-- there is no row past the last
+pub row_past : (es : Entries) (a : ℕ) → length es ≤ a → row_number es a ≡ []
+row_past es a past = ap (λ o. option_map_or (λ (edge : Name × Edges). edge.1) o []) (slice_get_past es a past)
+
+-- a place with a linking edge is one of the row
+pub place_within : (es : Entries) (a place b : ℕ) → linked_end es a place ≡ Some b → place < length (row_number es a)
+place_within es a place b e = let h = has_end es a place b e in slice_get_within (row_number es a) place (h.name, h.label) h.read
+
 -- ---- the next row
 pub links-row : (es : Entries) (links : NeighbourLists) (i : ℕ) → LinksUpTo es links i (length (row_number es i)) → LinksUpTo es links (i + 1) 0
 links-row es links i s = record { len = s.len; from = s.from; there = λ a place b h e. s.there a place b (by a place b e h) e }
   where
     within : (a place b : ℕ) → linked_end es a place ≡ Some b → a ≡ i → place < length (row_number es i)
-    within a place b e q = let h = has_end es a place b e in subst (λ n. place < length (row_number es n)) q (slice_get_within (row_number es a) place (h.name, h.label) h.read)
+    within a place b e q = subst (λ n. place < length (row_number es n)) q (place_within es a place b e)
 
     by : (a place b : ℕ) → linked_end es a place ≡ Some b → IsBefore a place (i + 1) 0 → IsBefore a place i (length (row_number es i))
     by a place b e (inl h) = cases (cases_lt a i)
@@ -153,37 +162,30 @@ module _ (es : Entries) (ok : IsGraph es) where
       by true b h = refl
       by false b h = h
 
-  row_there : (a place b : ℕ) → linked_end es a place ≡ Some b → a < length (keys_of es)
+  pub row_there : (a place b : ℕ) → linked_end es a place ≡ Some b → a < length (keys_of es)
   row_there a place b e = let h = has_end es a place b e in by (cases_lt a (length (keys_of es))) h.read
     where
       by : (a < length (keys_of es)) ⊎ (length (keys_of es) ≤ a) → slice_get (row_number es a) place ≡ Some ((has_end es a place b e).name, (has_end es a place b e).label) → a < length (keys_of es)
       by (inl l) r = l
-      by (inr l) r = let none : row_number es a ≡ [] = ap (λ o. option_map_or (λ (edge : Name × Edges). edge.1) o []) (slice_get_past es a (omega (arith, length-keys_of es))) in let past = ap (λ row. slice_get row place) none in cc
+      by (inr l) r = let none = row_past es a (omega (arith, length-keys_of es)) in let past = ap (λ row. slice_get row place) none in cc
 
-  end_within : (a place b : ℕ) → linked_end es a place ≡ Some b → b < length (keys_of es)
+  pub end_within : (a place b : ℕ) → linked_end es a place ≡ Some b → b < length (keys_of es)
   end_within a place b e = let h = has_end es a place b e in (position-Some (bytes_eq h.name) (keys_of es) b h.name h.known).0
 
   -- each position is before the end
   whole_before : (a place b : ℕ) → linked_end es a place ≡ Some b → IsBefore a place (length (keys_of es)) 0
   whole_before a place b e = inl (row_there a place b e)
 
-  near-linked : (links : NeighbourLists) → LinksUpTo es links (length (keys_of es)) 0 → (a b : ℕ) (u v : Name) → slice_get (keys_of es) a ≡ Some u → slice_get (keys_of es) b ≡ Some v → is_near links a b ≡ true → linked (graph_of es) u v ≡ true
-  near-linked links s a b u v p q h = by (s.from a b h)
+  -- the ends of a linking edge are linked
+  pub edge-linked : (a place b : ℕ) (u v : Name) → slice_get (keys_of es) a ≡ Some u → slice_get (keys_of es) b ≡ Some v → linked_end es a place ≡ Some b → linked (graph_of es) u v ≡ true
+  edge-linked a place b u v p q e = first ((graph_of es).holds u T v) ((graph_of es).holds u G v) ((graph_of es).holds v T u) ((graph_of es).holds v G u) (tie-end a place b u v p q e)
     where
       first : (x y z w : Bool) → (x || y) ≡ true → (x || y || z || w) ≡ true
       first x y z w e = ap (λ t. t || z || w) e
 
-      second : (x y z w : Bool) → (z || w) ≡ true → (x || y || z || w) ≡ true
-      second true y z w e = refl
-      second false true z w e = refl
-      second false false z w e = e
-
-      by : (place : ℕ) × ((linked_end es a place ≡ Some b) ⊎ (linked_end es b place ≡ Some a)) → linked (graph_of es) u v ≡ true
-      by (place, inl e) = first ((graph_of es).holds u T v) ((graph_of es).holds u G v) ((graph_of es).holds v T u) ((graph_of es).holds v G u) (tie-end a place b u v p q e)
-      by (place, inr e) = second ((graph_of es).holds u T v) ((graph_of es).holds u G v) ((graph_of es).holds v T u) ((graph_of es).holds v G u) (tie-end b place a v u q p e)
-
-  linked-near : (links : NeighbourLists) → LinksUpTo es links (length (keys_of es)) 0 → (a b : ℕ) (u v : Name) → slice_get (keys_of es) a ≡ Some u → slice_get (keys_of es) b ≡ Some v → linked (graph_of es) u v ≡ true → is_near links a b ≡ true
-  linked-near links s a b u v p q h = by (one ((graph_of es).holds u T v) ((graph_of es).holds u G v) ((graph_of es).holds v T u) ((graph_of es).holds v G u) h)
+  -- an edge links the vertices at two positions, in one direction or the other
+  pub linked-edge : (a b : ℕ) (u v : Name) → slice_get (keys_of es) a ≡ Some u → slice_get (keys_of es) b ≡ Some v → linked (graph_of es) u v ≡ true → (place : ℕ) × ((linked_end es a place ≡ Some b) ⊎ (linked_end es b place ≡ Some a))
+  linked-edge a b u v p q h = by (one ((graph_of es).holds u T v) ((graph_of es).holds u G v) ((graph_of es).holds v T u) ((graph_of es).holds v G u) h)
     where
       one : (x y z w : Bool) → (x || y || z || w) ≡ true → (x ≡ true) ⊎ ((y ≡ true) ⊎ ((z ≡ true) ⊎ (w ≡ true)))
       one true y z w e = inl refl
@@ -191,17 +193,31 @@ module _ (es : Entries) (ok : IsGraph es) where
       one false false true w e = inr (inr (inl refl))
       one false false false w e = inr (inr (inr e))
 
-      out : (place : ℕ) × (linked_end es a place ≡ Some b) → is_near links a b ≡ true
-      out (place, e) = (s.there a place b (whole_before a place b e) e).0
+      out : (place : ℕ) × (linked_end es a place ≡ Some b) → (place : ℕ) × ((linked_end es a place ≡ Some b) ⊎ (linked_end es b place ≡ Some a))
+      out (place, e) = (place, inl e)
 
-      back : (place : ℕ) × (linked_end es b place ≡ Some a) → is_near links a b ≡ true
-      back (place, e) = (s.there b place a (whole_before b place a e) e).1
+      back : (place : ℕ) × (linked_end es b place ≡ Some a) → (place : ℕ) × ((linked_end es a place ≡ Some b) ⊎ (linked_end es b place ≡ Some a))
+      back (place, e) = (place, inr e)
 
-      by : ((graph_of es).holds u T v ≡ true) ⊎ (((graph_of es).holds u G v ≡ true) ⊎ (((graph_of es).holds v T u ≡ true) ⊎ ((graph_of es).holds v G u ≡ true))) → is_near links a b ≡ true
+      by : ((graph_of es).holds u T v ≡ true) ⊎ (((graph_of es).holds u G v ≡ true) ⊎ (((graph_of es).holds v T u ≡ true) ⊎ ((graph_of es).holds v G u ≡ true))) → (place : ℕ) × ((linked_end es a place ≡ Some b) ⊎ (linked_end es b place ≡ Some a))
       by (inl e) = out (end-tie a b u v T p q take_ties e)
       by (inr (inl e)) = out (end-tie a b u v G p q grant_ties e)
       by (inr (inr (inl e))) = back (end-tie b a v u T q p take_ties e)
       by (inr (inr (inr e))) = back (end-tie b a v u G q p grant_ties e)
+
+  near-linked : (links : NeighbourLists) → LinksUpTo es links (length (keys_of es)) 0 → (a b : ℕ) (u v : Name) → slice_get (keys_of es) a ≡ Some u → slice_get (keys_of es) b ≡ Some v → is_near links a b ≡ true → linked (graph_of es) u v ≡ true
+  near-linked links s a b u v p q h = by (s.from a b h)
+    where
+      by : (place : ℕ) × ((linked_end es a place ≡ Some b) ⊎ (linked_end es b place ≡ Some a)) → linked (graph_of es) u v ≡ true
+      by (place, inl e) = edge-linked a place b u v p q e
+      by (place, inr e) = linked_sym (graph_of es) v u (edge-linked b place a v u q p e)
+
+  linked-near : (links : NeighbourLists) → LinksUpTo es links (length (keys_of es)) 0 → (a b : ℕ) (u v : Name) → slice_get (keys_of es) a ≡ Some u → slice_get (keys_of es) b ≡ Some v → linked (graph_of es) u v ≡ true → is_near links a b ≡ true
+  linked-near links s a b u v p q h = by (linked-edge a b u v p q h)
+    where
+      by : (place : ℕ) × ((linked_end es a place ≡ Some b) ⊎ (linked_end es b place ≡ Some a)) → is_near links a b ≡ true
+      by (place, inl e) = (s.there a place b (whole_before a place b e) e).0
+      by (place, inr e) = (s.there b place a (whole_before b place a e) e).1
 
   alike : (a b : Bool) → (a ≡ true → b ≡ true) → (b ≡ true → a ≡ true) → a ≡ b
   alike true b f g = sym (f refl)

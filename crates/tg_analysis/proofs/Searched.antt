@@ -122,13 +122,6 @@ module _ (g : ProtectionGraph) (well : WellFormed g) where
       go false = search-push met u v from s here link
 
 -- ---- in order
-pub order-start : (x : Name) → IsInOrder ((x, 0) ∷ []) 0
-order-start x = record { rising = λ j k v w a b le p q. omega (arith, first j v a p); so_far = λ k v from h. omega (arith, first k v from h) }
-  where
-    first : (k : ℕ) (v : Name) (from : ℕ) → slice_get {X = Name × ℕ} ((x, 0) ∷ []) k ≡ Some (v, from) → from ≡ 0
-    first zero v from h = let same : (x, 0) ≡ (v, from) = cc in sym (ap (λ (t : Name × ℕ). t.1) same)
-    first (suc k) v from h = absurd (cc)
-
 pub order-later : (met : Visits) (m n : ℕ) → m ≤ n → IsInOrder met m → IsInOrder met n
 order-later met m n le o = record { rising = o.rising; so_far = λ k v from h. omega (arith, le, o.so_far k v from h) }
 

@@ -2,7 +2,8 @@
 use Rattle.std.specs.Prelude.{◌≡◌, ℕ, ◌<◌, ◌≤◌, ◌+◌, true, not, List, [], ◌∷◌, length, map, nat_eq, slice_index_or, count_by, Option, Some, None, is_some, ◌⊎◌}
 use Rattle.std.specs.List.{list_any}
 use Rattle.tg_analysis.specs.declared.flooding.Flood.{Flood}
-use Rattle.tg_analysis.specs.Linked.{NeighbourLists, is_near}
+use Rattle.tg_graph.specs.Rows.{Entries}
+use Rattle.tg_analysis.specs.Linked.{NeighbourLists, is_near, linked_end}
 
 -- the number at a position, if it has one
 abbrev pub number_in : List (Option ℕ) → ℕ → Option ℕ
@@ -37,6 +38,18 @@ pub record Meets (positions : List ℕ) (old new : Flood) : Type 0 where
   pub waits : (a : ℕ) → IsOneOf a new.waiting.items → IsOneOf a old.waiting.items ⊎ ((number_at old a ≡ None) × (number_at new a ≡ Some old.current))
   pub met : (a : ℕ) → IsOneOf a positions → is_some (number_at new a) ≡ true
   pub work : work_left new ≡ work_left old
+
+-- the end of the edge at a place, if it links, was met, and nothing else
+pub record MeetsEnd (es : Entries) (a place : ℕ) (old new : Flood) : Type 0 where
+  pub met : (b : ℕ) → linked_end es a place ≡ Some b → Meets (b ∷ []) old new
+  pub kept : linked_end es a place ≡ None → new ≡ old
+
+-- the ends of the linking edges of a row, up to a place, were met, and nothing else
+pub record MeetsEnds (es : Entries) (a here : ℕ) (old new : Flood) : Type 0 where
+  pub positions : List ℕ
+  pub all : (place b : ℕ) → place < here → linked_end es a place ≡ Some b → IsOneOf b positions
+  pub only : (b : ℕ) → IsOneOf b positions → (place : ℕ) × (linked_end es a place ≡ Some b)
+  pub meets : Meets positions old new
 
 -- a flood from the seed: what has the current number can be reached, and has numbered neighbours or waits
 pub record FloodsSoFar (links : NeighbourLists) (seed : ℕ) (old new : Flood) : Type 0 where

@@ -2,7 +2,7 @@ pub mod Sharing
 pub mod Linked
 pub mod Numbering
 pub mod Flooding
-pub mod Holders
+pub mod Spreading
 pub mod Moves
 pub mod Derivations
 pub mod Questions

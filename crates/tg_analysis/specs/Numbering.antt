@@ -1,12 +1,17 @@
 -- Islands by number.
-use Rattle.std.specs.Prelude.{◌≡◌, ℕ, ◌<◌, ◌↔◌, true, List, length, nat_eq, slice_get, Some}
+use Rattle.std.specs.Prelude.{◌≡◌, ℕ, ◌<◌, ◌↔◌, true, List, length, nat_eq, bytes_eq, position, slice_get, Option, Some}
 use Rattle.std.specs.List.{list_any}
+use Rattle.std.specs.Option.{option_and_then}
 use Rattle.tg_graph.specs.Graphs.{Name, ProtectionGraph}
 use Rattle.tg_analysis.specs.Sharing.{InOneIsland}
 
 -- numbered from 0 in order of first position: each smaller number stands at an earlier position
 abbrev pub InOrderOfFirstPosition : List ℕ → Type 0
 InOrderOfFirstPosition numbers = (a m : ℕ) → slice_get numbers a ≡ Some m → (k : ℕ) → k < m → (b : ℕ) × (b < a) × (slice_get numbers b ≡ Some k)
+
+-- the number of a vertex's island, where the vertices have these numbers by position
+abbrev pub number_of : List Name → List ℕ → Name → Option ℕ
+number_of vs numbers v = option_and_then (λ place. slice_get numbers place) (position (bytes_eq v) vs)
 
 -- the numbers in use are those below the count
 pub record AreCounted (numbers : List ℕ) (count : ℕ) : Type 0 where

@@ -1,25 +1,33 @@
 //! The flood that finds the islands of a graph.
 ghost use Rattle.std.specs.Prelude.{◌≡◌, ◌<◌, ◌+◌, [], ◌∷◌, IfOk, OnOk, true, length, replicate, is_some, None, ℕ};
+ghost use Rattle.std.specs.Map.{keys_of};
+ghost use Rattle.tg_graph.specs.Rows.{row_number};
 ghost use Rattle.tg_graph.specs.GraphOf.{graph_of};
 ghost use Rattle.tg_analysis.specs.Linked.{neighbours, is_near};
 ghost use Rattle.tg_analysis.specs.Numbering.{AreIslands};
-ghost use Rattle.tg_analysis.specs.Flooding.{number_in, Meets, Floods, NumbersUpTo, GoBothWays, AreTheNumbers};
+ghost use Rattle.tg_analysis.specs.Flooding.{number_in, Meets, Floods, NumbersUpTo, GoBothWays, AreTheNumbers, MeetsEnd, MeetsEnds};
 
-use crate::links::Links;
+use crate::links::{Links, linked_end};
 use crate::numbering::Islands;
 use std::alloc::{AllocError, Global};
 use tg_graph::Graph;
 
-// The numbers so far, the positions whose neighbours are still to be met, and the number that is given now.
+/// A flood that gives numbers to the positions that it meets.
 #[derive(Drop)]
-struct Flood {
-    numbers: Vec<Option<usize>>,
-    waiting: Vec<usize>,
-    current: usize,
+pub struct Flood {
+    /// The numbers so far, by position.
+    pub numbers: Vec<Option<usize>>,
+    /// The positions whose neighbours are still to be met.
+    pub waiting: Vec<usize>,
+    /// The number that is given now.
+    pub current: usize,
 }
 
 impl Flood {
-    fn new(alloc: Global, count: usize) -> Result<Flood, AllocError>
+    /// A flood that has met none of so many positions.
+    ///
+    /// The one error is want of memory.
+    pub fn new(alloc: Global, count: usize) -> Result<Flood, AllocError>
         ensures numbers { IfOk result (λ flood. flood.numbers.items ≡ replicate count None) }
         ensures waiting { IfOk result (λ flood. flood.waiting.items ≡ []) }
         ensures current { IfOk result (λ flood. flood.current ≡ 0) }
@@ -31,8 +39,10 @@ impl Flood {
         })
     }
 
-    // Gives a position the current number, if it has none.
-    fn meet(&mut self, position: usize) -> Result<(), AllocError>
+    /// Gives a position the current number, if it has none.
+    ///
+    /// The one error is want of memory.
+    pub fn meet(&mut self, position: usize) -> Result<(), AllocError>
         requires { position < length self.old.numbers.items }
         ensures { OnOk result (Meets (position ∷ []) self.old self.new) }
     {
@@ -43,13 +53,40 @@ impl Flood {
         Ok(())
     }
 
-    // Meets each neighbour of a position.
-    fn meet_neighbours(&mut self, links: &Links, position: usize) -> Result<(), AllocError>
+    /// Meets each neighbour of a position.
+    ///
+    /// The one error is want of memory.
+    pub fn meet_neighbours(&mut self, links: &Links, position: usize) -> Result<(), AllocError>
         requires { (b : ℕ) → is_near links.now position b ≡ true → b < length self.old.numbers.items }
         ensures { OnOk result (Meets (neighbours links.now position) self.old self.new) }
     {
         for neighbour in links.at(position) {
             self.meet(*neighbour)?;
+        }
+        Ok(())
+    }
+
+    // Meets the end of an edge, if its label has take or grant.
+    fn meet_end(&mut self, graph: &Graph, position: usize, place: usize) -> Result<(), AllocError>
+        requires { length self.old.numbers.items ≡ length (keys_of graph.now) }
+        ensures { OnOk result (MeetsEnd graph.now position place self.old self.new) }
+    {
+        if let Some(end) = linked_end(graph, position, place) {
+            self.meet(end)?;
+        }
+        Ok(())
+    }
+
+    /// Meets the ends of the edges out of a position whose labels have take or grant.
+    ///
+    /// The one error is want of memory.
+    pub fn meet_row(&mut self, graph: &Graph, position: usize) -> Result<(), AllocError>
+        requires { length self.old.numbers.items ≡ length (keys_of graph.now) }
+        ensures { OnOk result
+            (MeetsEnds graph.now position (length (row_number graph.now position)) self.old self.new) }
+    {
+        for place in 0..graph.row_len(position) {
+            self.meet_end(graph, position, place)?;
         }
         Ok(())
     }

@@ -32,6 +32,8 @@ fn three_islands(rt: HostRuntime) -> Result<(), Fail> {
     let g = graph(&rt, rt.alloc(), &[b"a", b"b", b"c", b"d", b"e"], &edges)?;
     let found = islands(rt.alloc(), &g)?;
     assert!(rt; found.count() == 3);
+    assert!(rt; found.number_of(&g, name(&rt, b"c")) == Some(1));
+    assert!(rt; found.number_of(&g, name(&rt, b"z")).is_none());
     assert!(rt; found.of(0) == Some(0) && found.of(1) == Some(0) && found.of(2) == Some(1));
     assert!(rt; found.of(3) == Some(2) && found.of(4) == Some(2) && found.of(5).is_none());
     Ok(())

@@ -21,6 +21,7 @@ mod met;
 mod moves;
 mod numbering;
 mod questions;
+mod spreading;
 mod table_faults;
 #[cfg(test)]
 mod table_tests;

@@ -61,8 +61,8 @@ impl Model for Links {
     ghost view = { λ l. l.near.items };
 }
 
-// The position at the other end of an edge, if its label has take or grant.
-fn linked_end(graph: &Graph, position: usize, place: usize) -> Option<usize>
+/// The position at the other end of an edge, if its label has take or grant.
+pub fn linked_end(graph: &Graph, position: usize, place: usize) -> Option<usize>
     ensures { result ≡ linked_end graph.now position place }
 {
     let (name, label) = graph.row_at(position, place)?;
@@ -104,8 +104,10 @@ impl Links {
         }
     }
 
-    // No links between this many vertices.
-    fn none(alloc: Global, count: usize) -> Result<Links, AllocError>
+    /// No links between this many vertices.
+    ///
+    /// The one error is want of memory.
+    pub fn none(alloc: Global, count: usize) -> Result<Links, AllocError>
         ensures { IfOk result (λ links. links ≡ replicate count []) }
     {
         let mut near = Vec::with_capacity(alloc, count)?;
@@ -115,8 +117,10 @@ impl Links {
         Ok(Links { near })
     }
 
-    // Makes one position a neighbour of another.
-    fn add(&mut self, position: usize, neighbour: usize) -> Result<(), AllocError>
+    /// Makes one position a neighbour of another.
+    ///
+    /// The one error is want of memory.
+    pub fn add(&mut self, position: usize, neighbour: usize) -> Result<(), AllocError>
         requires { position < length self.old }
         ensures { OnOk result (AddsNeighbour self.old self.new position neighbour) }
     {

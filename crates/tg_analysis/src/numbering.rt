@@ -1,8 +1,10 @@
 //! The numbers of islands.
 ghost use Rattle.std.specs.Prelude.{◌≡◌, length, slice_get};
-ghost use Rattle.tg_analysis.specs.Numbering.{AreCounted};
+ghost use Rattle.std.specs.Map.{keys_of};
+ghost use Rattle.tg_analysis.specs.Numbering.{AreCounted, number_of};
 
 use std::marker::Model;
+use tg_graph::{Graph, Name};
 
 /// The islands of a graph, numbered from 0 in order of their first position.
 ///
@@ -51,5 +53,12 @@ impl Islands {
         ensures { result ≡ slice_get self.now position }
     {
         self.numbers.get(position).copied()
+    }
+
+    /// The number of the island of a vertex; none for a name that is no vertex of the graph.
+    pub fn number_of(&self, graph: &Graph, vertex: Name) -> Option<usize>
+        ensures { result ≡ number_of (keys_of graph.now) self.now vertex }
+    {
+        self.of(graph.position(vertex)?)
     }
 }

@@ -2,7 +2,7 @@ use Rattle.std.proofs.Common.{◌<◌, ◌+◌, length, sym, ◌∙◌, arith}
 use Rattle.std.proofs.lemmas.Option.{slice_get_within}
 use Rattle.std.specs.Map.{keys_of}
 use Rattle.tg_graph.specs.GraphOf.{graph_of}
-use Rattle.tg_analysis.proofs.Searched.{visit-key, key-visit, none_unless, few-met, order-start, order-later, searched-next, searched-whole}
+use Rattle.tg_analysis.proofs.Searched.{visit-key, key-visit, none_unless, few-met, order-later, searched-next, searched-whole}
 use Rattle.tg_analysis.proofs.Ways.{backwards, way-is}
 use Rattle.tg_analysis.proofs.chains.chain_to.Goals as goal
 

@@ -1,0 +1,15 @@
+use Rattle.std.proofs.Common.{◌≡◌, ℕ}
+use Rattle.tg_analysis.specs.Flooding.{work_left}
+use Rattle.tg_analysis.specs.Spreading.{IsMet, IsSpread}
+use Rattle.tg_analysis.proofs.spreading.Spread.run.Given as goal
+
+abbrev pub invariant-loop-position : goal.invariant-loop-position
+invariant-loop-position l =
+    record {
+      is_spread : IsSpread l.graph l.asked l.self.flood.waiting.items l.self;
+      back : l.self.back ≡ l.initial.self.back;
+      grows : (a : ℕ) → IsMet l.initial.self a → IsMet l.self a;
+    }
+
+abbrev pub decreases-loop-position : goal.decreases-loop-position
+decreases-loop-position l = work_left l.self.flood
