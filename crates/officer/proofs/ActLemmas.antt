@@ -31,14 +31,14 @@ keeps_both u v w h k = record { opening = k.opening ∙ h.opening; seats = k.sea
 keeps_same : (v w : World) → v ≡ w → Keeps w v
 keeps_same v w e = record { opening = ap (λ (w : World). w.opening) e; seats = ap (λ (w : World). length w.seats) e }
 
-happens_keeps : (w v : World) (event : Event) (answer : HallReply) → Happens w event answer v → Keeps w v
+pub happens_keeps : (w v : World) (event : Event) (answer : HallReply) → Happens w event answer v → Keeps w v
 happens_keeps w v event answer h = by (seat_of w (seat_in event)) h
   where
     by : (o : Option SeatView) → MatchOption o ((answer ≡ reply.Refused NoSeat) × (v ≡ w)) (λ s. (t : SeatView) × (later : List Record) × Moves (rests_on w s) w.cells w.history s event answer t later × (v ≡ with_seat w (seat_in event) t later)) → Keeps w v
     by None h = keeps_same v w h.1
     by (Some s) h = record { opening = ap (λ (w : World). w.opening) h.3; seats = ap (λ (w : World). length w.seats) h.3 ∙ length-set w.seats (seat_in event - 1) h.0 }
 
-run_keeps : (w v : World) (events : List Event) (answers : List HallReply) → Run w events answers v → Keeps w v
+pub run_keeps : (w v : World) (events : List Event) (answers : List HallReply) → Run w events answers v → Keeps w v
 run_keeps w v [] [] r = keeps_same v w r
 run_keeps w v [] (a ∷ answers) r = absurd r
 run_keeps w v (e ∷ events) [] r = absurd r

@@ -1,7 +1,6 @@
 -- Dealings one after another.
 use Rattle.std.proofs.Common.{◌≡◌, ℕ, List, [], ◌∷◌, ◌++◌, refl, sym, ◌∙◌, ap, subst, inl, append_assoc}
 use Rattle.std.specs.Prelude.{Option, None, Some, Result, Ok}
-use Rattle.std.proofs.lemmas.List.{append-nil}
 use Rattle.officer.specs.declared.fault.Cause.{Cause}
 use Rattle.officer.specs.declared.fault.Cause.TheVariants.{Graph, Second}
 use Rattle.officer.specs.declared.fetch.FetchFault.{FetchFault}

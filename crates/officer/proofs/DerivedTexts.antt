@@ -1,10 +1,11 @@
 -- The report of a derivation is read as its rules, and they are carried out whole.
-use Rattle.std.proofs.Common.{◌≡◌, ℕ, ◌+◌, ◌≤◌, List, [], ◌∷◌, length, Ok, codes, refl, sym, ap, subst, ◌∙◌, arith}
+use Rattle.std.proofs.Common.{◌≡◌, ℕ, ◌+◌, ◌*◌, ◌≤◌, List, [], ◌∷◌, length, Ok, codes, refl, sym, ap, subst, ◌∙◌, arith}
 use Rattle.std.specs.Prelude.{decimal, IsTrue}
 use Rattle.std.specs.List.{AllByRecursion}
 use Rattle.std.proofs.lemmas.Fmt.{decimal_nonempty}
 use Rattle.tg_graph.specs.declared.rules.Rule.{Rule}
 use Rattle.tg_graph.specs.Graphs.{ProtectionGraph}
+use Rattle.tg_graph.specs.Limits.{most_vertices}
 use Rattle.tg_graph.specs.Rules.{after}
 use Rattle.tg_graph.specs.RuleWords.{IsRule}
 use Rattle.tg_graph.specs.RuleLists.{AllAccepted, after_all}
@@ -16,6 +17,7 @@ use Rattle.tg_text.specs.RoundTrips.{lines_of_rules, on_lines}
 use Rattle.tg_text.proofs.PlainWords.{IsPlainWord, word_from_test, name_word}
 use Rattle.tg_text.proofs.RuleBack.{length-more}
 use Rattle.tg_text.proofs.RulesBack.{rules-read, skipped-line}
+use Rattle.tg_analysis.proofs.Short.{short_enough}
 use Rattle.officer.specs.Reports.{Played, played_first, played, derivation_report}
 use Rattle.officer.specs.ReportLaws.{rules_of, DerivationsGiveTheRight}
 
@@ -43,27 +45,28 @@ all_played g n (rule ∷ rules) a =
 abbrev header : ℕ → List Word
 header n = codes "#" ∷ codes "yes" ∷ decimal n ∷ []
 
-number_word : (n : ℕ) → n ≤ 65536 → IsPlainWord (decimal n)
+number_word : (n : ℕ) → n ≤ 4 * most_vertices → IsPlainWord (decimal n)
 number_word n h =
     let name = name_word (95 ∷ decimal n) (name-decimal n (omega (arith, h))) in
     record { some = decimal_nonempty n (omega (arith, h)); plain = name.plain.1 }
 
-plain_header : (n : ℕ) → n ≤ 65536 → AllByRecursion IsPlainWord (header n)
+plain_header : (n : ℕ) → n ≤ 4 * most_vertices → AllByRecursion IsPlainWord (header n)
 plain_header n h = (word_from_test (codes "#") refl refl, (word_from_test (codes "yes") refl refl, (number_word n h, tt)))
 
-short_header : (n : ℕ) → n ≤ 65536 → length (spaced (header n)) ≤ 256
+short_header : (n : ℕ) → n ≤ 4 * most_vertices → length (spaced (header n)) ≤ 256
 short_header n h =
     let within = (name-decimal n (omega (arith, h))).within in
     omega (arith, length-more (codes "#") (codes "yes") (decimal n ∷ []), length-more (codes "yes") (decimal n) [], within)
 
-text_read : (rules : List Rule) → AllByRecursion IsRule rules → length rules ≤ 65536 → rules_text (derivation_report rules).bytes ≡ Ok (on_lines 2 rules)
+text_read : (rules : List Rule) → AllByRecursion IsRule rules → length rules ≤ 4 * most_vertices → rules_text (derivation_report rules).bytes ≡ Ok (on_lines 2 rules)
 unfolding rules_text
 text_read rules a l =
     skipped-line 1 [] (header (length rules)) (lines_of_rules rules) (plain_header (length rules) l) (short_header (length rules) l) refl
     ∙ rules-read 2 [] rules a (omega (arith, l))
 
 pub derivations_give : DerivationsGiveTheRight
-derivations_give q rules few derived =
+derivations_give q rules small derived =
+    let few : length rules ≤ 4 * most_vertices = omega (arith, small, derived.few, short_enough q.graph q.x derived.chain derived.holder derived.joined derived.apart) in
     let whole = all_played q.graph 2 rules derived.accepted in
     record {
       lines = on_lines 2 rules;

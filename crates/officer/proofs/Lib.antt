@@ -7,3 +7,6 @@ pub mod ScriptLemmas
 pub mod DerivedTexts
 pub mod DealingLemmas
 pub mod OneReport
+pub mod IslandLines
+pub mod OnePlay
+pub mod RunLaws

@@ -5,25 +5,27 @@ use Rattle.std.specs.List.{flat_map}
 use Rattle.tg_graph.specs.Graphs.{Name, ProtectionGraph, has_vertex}
 use Rattle.tg_text.specs.Canonical.{in_name_order}
 use Rattle.tg_text.proofs.NameOrder.{among, among-in_order, same_name-refl}
-use Rattle.officer.specs.Calls.{CommandWords, Case, Check, Apply, Islands, Share, Derive, Run}
+use Rattle.officer.specs.Calls.{Case, Check, Apply, Islands, Share, Derive, Run}
 use Rattle.officer.specs.Readings.{ReportText, Question, graph_in, question_in}
-use Rattle.officer.specs.Reports.{IsReport, IsFor, Is, IsAnswer, IsDerived, TellsIslands, AreIslandLines, island_line, islands_text, check_report, apply_report, graph_part, rules_part}
-use Rattle.officer.specs.ReportLaws.{FindsRules, GivesRules, ThereIsOneReport}
+use Rattle.officer.specs.Reports.{IsFor, Is, IsAnswer, IsDerived, TellsIslands, AreIslandLines, island_line, islands_text, check_report, apply_report, graph_part, rules_part}
+use Rattle.officer.specs.Runs.{playing_in, IsPlayed}
+use Rattle.officer.specs.ReportLaws.{FindsRules, ThereIsOneReport}
+use Rattle.officer.proofs.OnePlay.{played_one}
 
 -- ---- tests that agree
-same_truth : (b c : Bool) → (b ≡ true → c ≡ true) → (c ≡ true → b ≡ true) → b ≡ c
+pub same_truth : (b c : Bool) → (b ≡ true → c ≡ true) → (c ≡ true → b ≡ true) → b ≡ c
 same_truth true c h k = sym (h refl)
 same_truth false true h k = k refl
 same_truth false false h k = refl
 
-either_true : (a b : Bool) → b ≡ true → (a || b) ≡ true
+pub either_true : (a b : Bool) → b ≡ true → (a || b) ≡ true
 either_true true b h = refl
 either_true false b h = h
 
 first_true : (a b : Bool) → a ≡ true → (a || b) ≡ true
 first_true a b h = ap (λ t. t || b) h
 
-filter_same : (p q : Name → Bool) (ws : List Name) → ((w : Name) → among w ws ≡ true → p w ≡ q w) → filter p ws ≡ filter q ws
+pub filter_same : (p q : Name → Bool) (ws : List Name) → ((w : Name) → among w ws ≡ true → p w ≡ q w) → filter p ws ≡ filter q ws
 filter_same p q [] h = refl
 filter_same p q (w ∷ ws) h =
     ap (λ b. cond b (w ∷ filter p ws) (filter p ws)) (h w (first_true _ _ (same_name-refl w)))
@@ -43,7 +45,7 @@ islands_one : (g : ProtectionGraph) (a b : ReportText) → AreIslandLines g a �
 islands_one g a b h k =
     let vs = in_name_order g.vertices in
     let same : islands_text h.0 vs ≡ islands_text k.0 vs =
-        lines_same h.0 k.0 vs vs (λ v w i j. tests_agree g h.0 k.0 h.1 k.1 v w (sym (among-in_order v g.vertices) ∙ i) (sym (among-in_order w g.vertices) ∙ j)) in
+    lines_same h.0 k.0 vs vs (λ v w i j. tests_agree g h.0 k.0 h.1 k.1 v w (sym (among-in_order v g.vertices) ∙ i) (sym (among-in_order w g.vertices) ∙ j)) in
     let F : List ℕ → ReportText = λ bytes. record { bytes = bytes; status = 0 } in
     h.2 ∙ (ap F same ∙ sym k.2)
 
@@ -73,10 +75,10 @@ for_derived (Ok q) a b i j = derived_one q a b i j
 for_derived (Err fault) a b i j = inl (i ∙ sym j)
 
 pub one_report : ThereIsOneReport
-one_report Case first second a b plain i j = inl (is_one (apply_report (graph_part first) (rules_part first)) a b i j)
-one_report Check first second a b plain i j = inl (is_one (check_report first) a b i j)
-one_report Apply first second a b plain i j = inl (is_one (apply_report first second) a b i j)
-one_report Islands first second a b plain i j = inl (for_one AreIslandLines (graph_in first) a b (λ g h k. islands_one g a b h k) i j)
-one_report (Share right x y) first second a b plain i j = inl (for_one IsAnswer (question_in first right x y) a b (λ q h k. answer_one q a b h k) i j)
-one_report (Derive right x y) first second a b plain i j = for_derived (question_in first right x y) a b i j
-one_report Run first second a b plain i j = absurd (plain refl)
+one_report Case first second a b i j = inl (is_one (apply_report (graph_part first) (rules_part first)) a b i j)
+one_report Check first second a b i j = inl (is_one (check_report first) a b i j)
+one_report Apply first second a b i j = inl (is_one (apply_report first second) a b i j)
+one_report Islands first second a b i j = inl (for_one AreIslandLines (graph_in first) a b (λ g h k. islands_one g a b h k) i j)
+one_report (Share right x y) first second a b i j = inl (for_one IsAnswer (question_in first right x y) a b (λ q h k. answer_one q a b h k) i j)
+one_report (Derive right x y) first second a b i j = for_derived (question_in first right x y) a b i j
+one_report Run first second a b i j = inl (for_one (λ p. IsPlayed p.graph p.script) (playing_in first second) a b (λ p h k. played_one p.graph p.script a b h k) i j)

@@ -9,7 +9,7 @@ use Rattle.officer.specs.declared.fetch.FetchFault.{FetchFault}
 use Rattle.officer.specs.declared.surroundings.WordsFault.{WordsFault}
 use Rattle.officer.specs.Faults.{cause_of_fetch, cause_of_words}
 use Rattle.officer.specs.Readings.{ReportText}
-use Rattle.officer.specs.Calls.{CallWords, Input as input, File as file, Files as files, CommandWords, Case, call_of, command_of}
+use Rattle.officer.specs.Calls.{CallWords, Input as input, File as file, Files as files, CommandWords, call_of, command_of}
 use Rattle.officer.specs.Reports.{IsReport}
 
 -- one question to the surroundings, and its answer

@@ -7,3 +7,4 @@ pub mod Reports
 pub mod Outcomes
 pub mod Dealings
 pub mod ReportLaws
+pub mod RunLaws

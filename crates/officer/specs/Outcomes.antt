@@ -6,6 +6,7 @@ use Rattle.tg_graph.specs.declared.rules.Refusal.{Refusal}
 use Rattle.tg_graph.specs.declared.session.Reply.TheVariants.{Done, Refused}
 use Rattle.tg_graph.specs.Graphs.{Name, ProtectionGraph, has_vertex}
 use Rattle.tg_graph.specs.GraphOf.{graph_of}
+use Rattle.tg_graph.specs.Limits.{most_vertices, most_cells, most_seats}
 use Rattle.tg_graph.specs.Rules.{refusal_of, after}
 use Rattle.tg_text.specs.declared.rule_text.RuleLine.{RuleLine}
 use Rattle.tg_text.specs.declared.script_text.ScriptLine.{ScriptLine}
@@ -14,7 +15,7 @@ use Rattle.tg_store.specs.declared.events.HallFault.{HallFault}
 use Rattle.tg_store.specs.declared.events.HallFault.TheVariants as hall
 use Rattle.tg_store.specs.declared.events.HallReply.{HallReply}
 use Rattle.tg_store.specs.declared.events.HallReply.TheVariants as reply
-use Rattle.tg_store.specs.Worlds.{World, most_cells, most_seats}
+use Rattle.tg_store.specs.Worlds.{World}
 use Rattle.tg_store.specs.Acts.{IsStageableAct}
 use Rattle.officer.specs.declared.outcome.Report.{Report}
 use Rattle.officer.specs.declared.outcome.Halt.{Halt}
@@ -46,7 +47,7 @@ question_of q = record { graph = graph_of q.graph; right = q.right; x = q.x; y =
 pub record IsAskable (q : Asked) : Type 0 where
   pub from : has_vertex q.graph q.x ≡ true
   pub to : has_vertex q.graph q.y ≡ true
-  pub small : length q.graph.vertices ≤ 1024
+  pub small : length q.graph.vertices ≤ most_vertices
 
 -- one rule is carried out or refused, and its reply is added to the text
 abbrev pub PlaysRule : RuleLine → Bool → List ℕ → List ℕ → ProtectionGraph → ProtectionGraph → Type 0

@@ -1,17 +1,20 @@
 -- What the reports' definitions come to.
-use Rattle.std.specs.Prelude.{◌≡◌, ◌≤◌, ◌⊎◌, IsTrue, ℕ, List, length, map, take, slice_get, Some, MatchOption, Result, Ok, Err}
+use Rattle.std.specs.Prelude.{◌≡◌, ◌<◌, ◌≤◌, ◌⊎◌, ◌↔◌, IsTrue, ℕ, List, [], ◌∷◌, length, map, filter, take, slice_get, Some, MatchOption, Result, Ok, Err}
+use Rattle.std.specs.List.{flat_map, list_any, AllByRecursion}
 use Rattle.tg_graph.specs.declared.rules.Refusal.{Refusal}
 use Rattle.tg_graph.specs.declared.rules.Rule.{Rule}
-use Rattle.tg_graph.specs.Graphs.{ProtectionGraph, WellFormed}
+use Rattle.tg_graph.specs.Graphs.{Name, same_name, ProtectionGraph, has_vertex, WellFormed}
+use Rattle.tg_graph.specs.Limits.{most_vertices}
 use Rattle.tg_graph.specs.Rules.{refusal_of}
 use Rattle.tg_graph.specs.Additions.{Leads}
 use Rattle.tg_text.specs.declared.rule_text.RuleLine.{RuleLine}
 use Rattle.tg_text.specs.RuleText.{rules_text}
-use Rattle.tg_text.specs.Canonical.{canonical_text}
+use Rattle.tg_text.specs.Canonical.{canonical_text, line_of}
+use Rattle.tg_analysis.specs.Sharing.{InOneIsland}
 use Rattle.tg_analysis.specs.Derivations.{IsDerivation}
 use Rattle.officer.specs.Calls.{CommandWords, Case, Check, Apply, Islands, Share, Derive, Run}
 use Rattle.officer.specs.Readings.{Question, ReportText, question_in}
-use Rattle.officer.specs.Reports.{Played, played, check_report, derivation_report, IsReport}
+use Rattle.officer.specs.Reports.{Played, played, check_report, derivation_report, AreIslandLines, IsReport}
 
 abbrev pub rules_of : List RuleLine → List Rule
 rules_of lines = map (λ line. line.rule) lines
@@ -34,13 +37,13 @@ pub record GivesTheRight (q : Question) (rules : List Rule) : Type 0 where
   pub status : (played q.graph lines).status ≡ 0
   pub gives : IsTrue ((played q.graph lines).end.holds q.x q.right q.y)
 
--- a derivation that is printed can be applied, if its rules are no more than a text may have
+-- a derivation that is printed can be applied, on a graph that a text may hold
 abbrev pub DerivationsGiveTheRight : Type 0
-DerivationsGiveTheRight = (q : Question) (rules : List Rule) → length rules ≤ 65536 → IsDerivation q.graph q.right q.x q.y rules → GivesTheRight q rules
+DerivationsGiveTheRight = (q : Question) (rules : List Rule) → length q.graph.vertices ≤ most_vertices → IsDerivation q.graph q.right q.x q.y rules → GivesTheRight q rules
 
 -- the canonical text of a graph that a text may hold is checked as it stands
 abbrev pub CanonicalTextsStay : Type 0
-CanonicalTextsStay = (g : ProtectionGraph) → WellFormed g → length g.vertices ≤ 1024 → check_report (canonical_text g) ≡ Ok (record { bytes = canonical_text g; status = 0 })
+CanonicalTextsStay = (g : ProtectionGraph) → WellFormed g → length g.vertices ≤ most_vertices → check_report (canonical_text g) ≡ Ok (record { bytes = canonical_text g; status = 0 })
 
 -- rules were found for a question that was asked, and the report has them
 abbrev pub FindsRules : Result Question ReportText → ReportText → Type 0
@@ -57,6 +60,20 @@ GivesRules Islands first report = ⊥
 GivesRules (Share right x y) first report = ⊥
 GivesRules Run first report = ⊥
 
--- a command has one report for its texts, but that other rules may be found; what a script leads to is not said here
+-- a command has one report for its texts, but that other rules may be found
 abbrev pub ThereIsOneReport : Type 0
-ThereIsOneReport = (command : CommandWords) (first second : List ℕ) (a b : ReportText) → (command ≡ Run → ⊥) → IsReport command first second a → IsReport command first second b → (a ≡ b) ⊎ (GivesRules command first a × GivesRules command first b)
+ThereIsOneReport = (command : CommandWords) (first second : List ℕ) (a b : ReportText) → IsReport command first second a → IsReport command first second b → (a ≡ b) ⊎ (GivesRules command first a × GivesRules command first b)
+
+-- the names are one island whole: what lies in one island with one of them is one of them
+pub record IsIsland (g : ProtectionGraph) (names : List Name) : Type 0 where
+  pub some : 0 < length names
+  pub whole : (u v : Name) → IsTrue (list_any (same_name u) names) → IsTrue (list_any (same_name v) names) ↔ InOneIsland g u v
+
+-- each is an island, and each vertex is in one of them, once
+pub record AreIslandsOf (g : ProtectionGraph) (islands : List (List Name)) : Type 0 where
+  pub each : AllByRecursion (IsIsland g) islands
+  pub once : (v : Name) → IsTrue (has_vertex g v) → filter (same_name v) (flat_map (λ names. names) islands) ≡ v ∷ []
+
+-- what is printed for the islands of a graph is a line for each of them
+abbrev pub IslandsAreLines : Type 0
+IslandsAreLines = (g : ProtectionGraph) (report : ReportText) → AreIslandLines g report → (islands : List (List Name)) × AreIslandsOf g islands × (report ≡ record { bytes = flat_map line_of islands; status = 0 })

@@ -2,6 +2,7 @@
 ghost use Rattle.std.specs.Prelude.{◌≡◌, ◌≤◌, ◌∷◌, ◌++◌, [], length, codes, true, IfOk, OnOk};
 ghost use Rattle.tg_graph.specs.GraphOf.{graph_of};
 ghost use Rattle.tg_graph.specs.Graphs.{has_vertex};
+ghost use Rattle.tg_graph.specs.Limits.{most_vertices};
 ghost use Rattle.tg_text.specs.RuleText.{AreNamedLines};
 ghost use Rattle.tg_text.specs.ScriptText.{script_of};
 ghost use Rattle.officer.specs.Readings.{kind_word, refusal, text_refusal, graph_in, rules_in, script_in, right_in, name_in, vertex_in, question_in};
@@ -9,7 +10,7 @@ ghost use Rattle.officer.specs.Outcomes.{Brings, report_text, question_of, IsAsk
 
 use crate::outcome::{Halt, Report};
 use std::alloc::{AllocError, Global};
-use tg_graph::{Graph, Name, Refusal, Reply, Right};
+use tg_graph::{Graph, Name, NameFault, Refusal, Reply, Right};
 use tg_text::{
     RuleLine, Script, TextFault, TextKind, append_reply, read_graph, read_rules, read_script,
 };
@@ -54,7 +55,7 @@ fn text_refusal(
 // The graph of a text, or the report of its first fault.
 pub(crate) fn graph_in(alloc: Global, text: &[u8]) -> Result<Graph, Halt>
     ensures made { Brings graph_of result (graph_in text.now) }
-    ensures small { IfOk result (λ graph. length (graph_of graph).vertices ≤ 1024) }
+    ensures small { IfOk result (λ graph. length (graph_of graph).vertices ≤ most_vertices) }
 {
     match read_graph(alloc, text) {
         Ok(graph) => Ok(graph),
@@ -130,7 +131,9 @@ fn name_in(alloc: Global, word: &str) -> Result<Name, Halt>
 {
     match Name::parse(word.as_bytes()) {
         Ok(name) => Ok(name),
-        Err(_) => Err(Halt::Refused(word_refusal(alloc, "bad-name")?)),
+        Err(NameFault::Empty | NameFault::TooLong | NameFault::BadByte(_)) => {
+            Err(Halt::Refused(word_refusal(alloc, "bad-name")?))
+        }
     }
 }
 

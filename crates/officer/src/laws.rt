@@ -1,18 +1,19 @@
-//! Laws of the reports. Each function does nothing: its contract is the law.
-ghost use Rattle.officer.specs.ReportLaws.{CanonicalTextsStay, DerivationsGiveTheRight, RulesStopAtRefusal, ThereIsOneReport};
+//! Laws of the reports and of the program's runs. Each function does nothing: its contract is the law.
+ghost use Rattle.officer.specs.ReportLaws.{CanonicalTextsStay, DerivationsGiveTheRight, IslandsAreLines, RulesStopAtRefusal, ThereIsOneReport};
+ghost use Rattle.officer.specs.RunLaws.{RunsPrintReports};
 
 /// A report of rules shows those up to the first that is refused, and the graph that they lead to.
 pub fn rules_stop_at_refusal()
     ensures { RulesStopAtRefusal }
 {}
 
-/// The report of a derivation is a text of rules: carried out on the same graph, none is refused, and they give the
-/// right that was asked for.
+/// The report of a derivation on a graph of at most `MOST_VERTICES` is a text of rules: carried out on the same graph,
+/// none is refused, and they give the right that was asked for.
 pub fn derivations_give_the_right()
     ensures { DerivationsGiveTheRight }
 {}
 
-/// What is printed of a graph of at most 1,024 vertices by `check` is printed again as it stands.
+/// What is printed of a graph of at most `MOST_VERTICES` by `check` is printed again as it stands.
 pub fn canonical_texts_stay()
     ensures { CanonicalTextsStay }
 {}
@@ -20,4 +21,15 @@ pub fn canonical_texts_stay()
 /// A command has one report for its texts, but that other rules may be found that give the right.
 pub fn there_is_one_report()
     ensures { ThereIsOneReport }
+{}
+
+/// What is printed for the islands of a graph is one line for each, and each vertex stands on one of them, once.
+pub fn islands_are_lines()
+    ensures { IslandsAreLines }
+{}
+
+/// A run that ends with a status has printed the report of the call that the words have, for the texts that were there,
+/// and done nothing else; the status is the report's.
+pub fn runs_print_reports()
+    ensures { RunsPrintReports }
 {}

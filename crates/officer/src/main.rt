@@ -40,6 +40,7 @@ fn main(rt: HostRuntime) -> ExitCode {
         Ok(status) => ExitCode::from(status),
         Err(cause) => {
             let (line, status) = fault_line(cause);
+            // where standard error takes no line either, the status tells
             let _ = rt.eprintln(line);
             ExitCode::from(status)
         }

@@ -1,6 +1,7 @@
 //! Scripts played on a hall.
 ghost use Rattle.std.specs.Prelude.{◌≡◌, ◌≤◌, IfOk, All, length};
 ghost use Rattle.tg_graph.specs.GraphOf.{graph_of};
+ghost use Rattle.tg_graph.specs.Limits.{most_vertices};
 ghost use Rattle.tg_text.specs.ScriptText.{script_of};
 ghost use Rattle.tg_store.specs.Worlds.{opened};
 ghost use Rattle.officer.specs.Reports.{IsFor};
@@ -39,19 +40,19 @@ fn play_all(alloc: Global, hall: &mut Hall, events: &[ScriptLine]) -> Result<Vec
 
 // A hall over the graph, with the cells and seats of the script.
 fn hall_for(alloc: Global, graph: &Graph, script: &Script) -> Result<Hall, AllocError>
-    requires small { length (graph_of graph.now).vertices ≤ 1024 }
+    requires small { length (graph_of graph.now).vertices ≤ most_vertices }
     requires playable { IsPlayableScript (script_of script.now) }
     ensures { IfOk result (λ hall. hall ≡ opened graph.now script.now.cells script.now.seats) }
 {
     match Hall::new(alloc, graph, script.cells, script.seats) {
         Ok(hall) => Ok(hall),
         Err(StoreFault::Memory) => Err(AllocError),
-        Err(_) => unreachable!(),
+        Err(StoreFault::TooManyVertices | StoreFault::Cells | StoreFault::Seats) => unreachable!(),
     }
 }
 
 fn played(alloc: Global, graph: &Graph, script: &Script) -> Result<Report, AllocError>
-    requires small { length (graph_of graph.now).vertices ≤ 1024 }
+    requires small { length (graph_of graph.now).vertices ≤ most_vertices }
     requires playable { IsPlayableScript (script_of script.now) }
     ensures { IfOk result (λ report. IsPlayed (graph_of graph.now) (script_of script.now) (report_text report)) }
 {

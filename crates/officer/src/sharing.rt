@@ -36,7 +36,7 @@ fn answer(alloc: Global, question: &Question) -> Result<Report, AllocError>
         Ok(true) => line(alloc, b"yes\n"),
         Ok(false) => line(alloc, b"no\n"),
         Err(AskFault::Memory) => Err(AllocError),
-        Err(_) => unreachable!(),
+        Err(AskFault::Unknown(_) | AskFault::TooLarge) => unreachable!(),
     }
 }
 
@@ -90,7 +90,7 @@ fn derived(alloc: Global, question: &Question) -> Result<Report, AllocError>
         Ok(Some(rules)) => rules_report(alloc, &rules),
         Ok(None) => line(alloc, b"# no\n"),
         Err(AskFault::Memory) => Err(AllocError),
-        Err(_) => unreachable!(),
+        Err(AskFault::Unknown(_) | AskFault::TooLarge) => unreachable!(),
     }
 }
 

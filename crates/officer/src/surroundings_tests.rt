@@ -193,6 +193,11 @@ fn calls(rt: HostRuntime) {
         read_words(&["share", "G", "r", "a", "c"])
             == Some(Call::File(Command::Share { right, x, y }, "G"))
     );
+    assert!(rt;
+        read_words(&["derive", "G", "r", "a", "c"])
+            == Some(Call::File(Command::Derive { right, x, y }, "G"))
+    );
+    assert!(rt; read_words(&["islands", "G"]) == Some(Call::File(Command::Islands, "G")));
 }
 
 #[test]

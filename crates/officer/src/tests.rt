@@ -1,5 +1,6 @@
 use crate::test_reports::reports;
 use crate::words::Command;
+use std::process::Abort;
 use std::test::Fail;
 
 #[test]
@@ -486,5 +487,39 @@ fn islands(rt: HostRuntime) -> Result<(), Fail> {
         b"refused graph line 3 duplicate-vertex\n",
         1,
     )?;
+    Ok(())
+}
+
+// The graph is read before what comes after it.
+fn refuses_graph<R: Abort + AllocGlobal>(rt: &R, command: Command) -> Result<(), Fail> {
+    reports(
+        rt,
+        command,
+        b"vertex a\nvertex a\n",
+        b"fly\n",
+        b"refused graph line 2 duplicate-vertex\n",
+        1,
+    )
+}
+
+#[test]
+fn graphs_refused_first(rt: HostRuntime) -> Result<(), Fail> {
+    let (right, x, y) = ("q", "A", "c");
+    refuses_graph(&rt, Command::Apply)?;
+    refuses_graph(&rt, Command::Share { right, x, y })?;
+    refuses_graph(&rt, Command::Derive { right, x, y })?;
+    refuses_graph(&rt, Command::Run)?;
+    Ok(())
+}
+
+#[test]
+fn derivations_refused(rt: HostRuntime) -> Result<(), Fail> {
+    let graph = b"vertex a\nvertex b\nvertex c\nedge a b t\nedge b c r\n".as_slice();
+    let (right, x, y) = ("q", "a", "c");
+    let question = Command::Derive { right, x, y };
+    reports(&rt, question, graph, b"", b"refused bad-right\n", 1)?;
+    let (right, x, y) = ("r", "a", "z");
+    let question = Command::Derive { right, x, y };
+    reports(&rt, question, graph, b"", b"refused unknown z\n", 1)?;
     Ok(())
 }
