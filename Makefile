@@ -4,12 +4,13 @@
 #                 some 20 minutes on four cores
 # make man        the manual page
 # make bench      time and peak memory of each command on heavy inputs
+# make races      races of 16 seats, each report compared with a small model's
 
 OFFICER = crates/officer/out/officer
 FILES = examples/file_service
 GRAPH = $(FILES).graph
 
-.PHONY: build demo examples test man bench
+.PHONY: build demo examples test man bench races
 
 build:
 	@echo "Proving and building officer and the crates below it: some six minutes on four cores from nothing, seconds after that."
@@ -35,6 +36,7 @@ examples: build
 	@$(OFFICER) derive $(GRAPH) r client payroll | diff - $(FILES).derive.out
 	@$(OFFICER) derive $(GRAPH) t service clerk | diff - $(FILES).helpers.out
 	@$(OFFICER) run $(GRAPH) $(FILES).script | diff - $(FILES).script.out
+	@$(OFFICER) race $(GRAPH) $(FILES).race.script | diff - $(FILES).race.out
 	@echo "Each example prints what is stored beside it."
 
 test:
@@ -45,3 +47,6 @@ man:
 
 bench: build
 	@python3 bench/bench.py $(OFFICER)
+
+races: build
+	@python3 bench/races.py $(OFFICER)

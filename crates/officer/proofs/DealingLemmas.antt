@@ -7,8 +7,7 @@ use Rattle.officer.specs.declared.fetch.FetchFault.{FetchFault}
 use Rattle.officer.specs.declared.surroundings.WordsFault.{WordsFault}
 use Rattle.officer.specs.Calls.{CallWords, CommandWords, call_of, command_of}
 use Rattle.officer.specs.Readings.{ReportText}
-use Rattle.officer.specs.Reports.{IsReport}
-use Rattle.officer.specs.Dealings.{Dealing, Words, File, Adds, Deals, text_or, and_text, GoesOn, ReadsBoth, Reads, Prints, AnswersCall, AnswersForm, AnswersWords, IsRun}
+use Rattle.officer.specs.Dealings.{Dealing, Words, File, Adds, Deals, text_or, and_text, GoesOn, ReadsBoth, Reads, IsReportOf, Prints, AnswersCall, AnswersForm, AnswersWords, IsRun}
 
 -- dealings and then more
 adds_more : (before mid after : Option (List Dealing)) (some more : List Dealing) → Adds before mid some → Adds mid after more → Adds before after (some ++ more)
@@ -31,12 +30,12 @@ both_read before mid after graph path first a b texts h e k t = record {
 }
 
 -- a report of the same command and texts
-pub report_same : (command command' : CommandWords) (first first' second second' : List ℕ) (report : ReportText) → command ≡ command' → first ≡ first' → second ≡ second' → IsReport command first second report → IsReport command' first' second' report
+pub report_same : (command command' : Option CommandWords) (first first' second second' : List ℕ) (report : ReportText) → command ≡ command' → first ≡ first' → second ≡ second' → IsReportOf command first second report → IsReportOf command' first' second' report
 report_same command command' first first' second second' report c e k is =
-    subst (λ (s : List ℕ). IsReport command' first' s report) k (subst (λ (f : List ℕ). IsReport command' f second report) e (subst (λ (w : CommandWords). IsReport w first second report) c is))
+    subst (λ (s : List ℕ). IsReportOf command' first' s report) k (subst (λ (f : List ℕ). IsReportOf command' f second report) e (subst (λ (w : Option CommandWords). IsReportOf w first second report) c is))
 
 -- the texts of a call are read, and a report of them is printed
-pub call_answered : (before mid after : Option (List Dealing)) (call : CallWords) (texts : Result (List ℕ × List ℕ) Cause) (first second : List ℕ) (report : ReportText) (end : Result ℕ Cause) → Deals before mid (Reads call texts) → texts ≡ Ok (first, second) → IsReport (command_of call) first second report → Deals mid after (Prints report end) → Deals before after (AnswersCall call end)
+pub call_answered : (before mid after : Option (List Dealing)) (call : CallWords) (texts : Result (List ℕ × List ℕ) Cause) (first second : List ℕ) (report : ReportText) (end : Result ℕ Cause) → Deals before mid (Reads call texts) → texts ≡ Ok (first, second) → IsReportOf (command_of call) first second report → Deals mid after (Prints report end) → Deals before after (AnswersCall call end)
 call_answered before mid after call texts first second report end d e is p = record {
   dealings = d.dealings ++ p.dealings;
   added = adds_more before mid after d.dealings p.dealings d.added p.added;

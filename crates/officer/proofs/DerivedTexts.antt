@@ -10,6 +10,7 @@ use Rattle.tg_graph.specs.Rules.{after}
 use Rattle.tg_graph.specs.RuleWords.{IsRule}
 use Rattle.tg_graph.specs.RuleLists.{AllAccepted, after_all}
 use Rattle.tg_graph.proofs.Digits.{name-decimal}
+use Rattle.tg_text.specs.Limits.{most_line_bytes}
 use Rattle.tg_text.specs.Words.{Word}
 use Rattle.tg_text.specs.Spelling.{spaced}
 use Rattle.tg_text.specs.RuleText.{rules_text}
@@ -17,7 +18,7 @@ use Rattle.tg_text.specs.RoundTrips.{lines_of_rules, on_lines}
 use Rattle.tg_text.proofs.PlainWords.{IsPlainWord, word_from_test, name_word}
 use Rattle.tg_text.proofs.RuleBack.{length-more}
 use Rattle.tg_text.proofs.RulesBack.{rules-read, skipped-line}
-use Rattle.tg_analysis.proofs.Short.{short_enough}
+use Rattle.tg_analysis.proofs.Derived.{derivations_are_short}
 use Rattle.officer.specs.Reports.{Played, played_first, played, derivation_report}
 use Rattle.officer.specs.ReportLaws.{rules_of, DerivationsGiveTheRight}
 
@@ -53,7 +54,7 @@ number_word n h =
 plain_header : (n : ℕ) → n ≤ 4 * most_vertices → AllByRecursion IsPlainWord (header n)
 plain_header n h = (word_from_test (codes "#") refl refl, (word_from_test (codes "yes") refl refl, (number_word n h, tt)))
 
-short_header : (n : ℕ) → n ≤ 4 * most_vertices → length (spaced (header n)) ≤ 256
+short_header : (n : ℕ) → n ≤ 4 * most_vertices → length (spaced (header n)) ≤ most_line_bytes
 short_header n h =
     let within = (name-decimal n (omega (arith, h))).within in
     omega (arith, length-more (codes "#") (codes "yes") (decimal n ∷ []), length-more (codes "yes") (decimal n) [], within)
@@ -66,7 +67,7 @@ text_read rules a l =
 
 pub derivations_give : DerivationsGiveTheRight
 derivations_give q rules small derived =
-    let few : length rules ≤ 4 * most_vertices = omega (arith, small, derived.few, short_enough q.graph q.x derived.chain derived.holder derived.joined derived.apart) in
+    let few : length rules ≤ 4 * most_vertices = omega (arith, small, derivations_are_short q.graph q.right q.x q.y rules derived) in
     let whole = all_played q.graph 2 rules derived.accepted in
     record {
       lines = on_lines 2 rules;

@@ -8,11 +8,12 @@ use Rattle.tg_graph.specs.Graphs.{Name, ProtectionGraph}
 use Rattle.tg_analysis.specs.Numbering.{AreIslands}
 use Rattle.tg_analysis.proofs.Places.{place_of, position-at}
 use Rattle.officer.specs.Reports.{TellsIslands, islands_text, island_line}
-use Rattle.officer.specs.Outcomes.{number_in, numbered, with_number, numbered_text}
+use Rattle.officer.specs.Outcomes.{numbered, with_number, numbered_text}
+use Rattle.tg_analysis.specs.Numbering.{number_of}
 
 -- the vertices have one number
 abbrev pub have_one_number : List Name → List ℕ → Name → Name → Bool
-have_one_number vs numbers v w = option_eq nat_eq (number_in vs numbers w) (number_in vs numbers v)
+have_one_number vs numbers v w = option_eq nat_eq (number_of vs numbers w) (number_of vs numbers v)
 
 kept : (t : Bool) (num : Name → Option ℕ) (w : Name) (entries : List (Name × Option ℕ)) (ws : List Name) → map (λ e. e.0) entries ≡ ws → map (λ e. e.0) (cond t ((w, num w) ∷ entries) entries) ≡ cond t (w ∷ ws) ws
 kept true num w entries ws h = ap (λ (vs : List Name). w ∷ vs) h
@@ -32,7 +33,7 @@ each_line num all (v ∷ vs) =
 
 -- the lines of the numbered names are those of the islands
 pub numbered_text_is : (vs : List Name) (numbers : List ℕ) (names : List Name) → numbered_text (numbered vs numbers names) ≡ islands_text (have_one_number vs numbers) names
-numbered_text_is vs numbers names = each_line (number_in vs numbers) names names
+numbered_text_is vs numbers names = each_line (number_of vs numbers) names names
 
 same_option : (m n : Option ℕ) → option_eq nat_eq m n ≡ true → m ≡ n
 same_option None None h = refl
@@ -47,7 +48,7 @@ option_itself (Some a) = eq-eqb a a refl
 test_from : (m n : Option ℕ) → m ≡ n → option_eq nat_eq m n ≡ true
 test_from m n e = let P : Option ℕ → Type 0 = λ k. option_eq nat_eq m k ≡ true in subst P e (option_itself m)
 
-number_is : (vs : List Name) (numbers : List ℕ) → IsDistinct bytes_eq vs → (v : Name) (a : ℕ) → slice_get vs a ≡ Some v → number_in vs numbers v ≡ slice_get numbers a
+number_is : (vs : List Name) (numbers : List ℕ) → IsDistinct bytes_eq vs → (v : Name) (a : ℕ) → slice_get vs a ≡ Some v → number_of vs numbers v ≡ slice_get numbers a
 number_is vs numbers apart v a e = ap (λ (o : Option ℕ). option_and_then (λ place. slice_get numbers place) o) (position-at vs apart a v e)
 
 -- one number is one island
@@ -58,6 +59,6 @@ tells_islands g numbers apart are u v hu hv =
     let nu = number_is g.vertices numbers apart u pu.0 pu.1 in
     let nv = number_is g.vertices numbers apart v pv.0 pv.1 in
     let exact = are.exact pu.0 pv.0 u v pu.1 pv.1 in (
-      λ t. exact.0 (sym nu ∙ (sym (same_option (number_in g.vertices numbers v) (number_in g.vertices numbers u) t) ∙ nv)),
-      λ i. test_from (number_in g.vertices numbers v) (number_in g.vertices numbers u) (nv ∙ (sym (exact.1 i) ∙ sym nu)),
+      λ t. exact.0 (sym nu ∙ (sym (same_option (number_of g.vertices numbers v) (number_of g.vertices numbers u) t) ∙ nv)),
+      λ i. test_from (number_of g.vertices numbers v) (number_of g.vertices numbers u) (nv ∙ (sym (exact.1 i) ∙ sym nu)),
     )

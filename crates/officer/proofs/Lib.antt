@@ -1,6 +1,9 @@
 pub mod Parting
 pub mod Small
 pub mod IslandTests
+pub mod RaceTurns
+pub mod RaceHistory
+pub mod RaceReports
 pub mod ReportLaws
 pub mod ActLemmas
 pub mod ScriptLemmas

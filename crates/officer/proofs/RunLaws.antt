@@ -6,7 +6,7 @@ use Rattle.officer.specs.declared.fault.Cause.TheVariants.{Graph, Second}
 use Rattle.officer.specs.declared.deliver.DeliverFault.{DeliverFault}
 use Rattle.officer.specs.declared.fetch.FetchFault.{FetchFault}
 use Rattle.officer.specs.declared.surroundings.WordsFault.{WordsFault}
-use Rattle.officer.specs.Calls.{CallWords, Input as input, File as file, Files as files, call_of, command_of}
+use Rattle.officer.specs.Calls.{CallWords, Input as input, File as file, Files as files, Race as race, call_of, command_of}
 use Rattle.officer.specs.Readings.{ReportText}
 use Rattle.officer.specs.Dealings.{Dealing, Words, Input, File, Print, text_or, and_text, GoesOn, Reads, end_of_print, Answers, AnswersForm, AnswersWords}
 use Rattle.officer.specs.RunLaws.{texts_given, HasPrinted, RunsPrintReports}
@@ -39,6 +39,7 @@ reads_given : (call : CallWords) (first second : List ℕ) (reading : List Deali
 reads_given input first second reading r = graph_given Input first second reading r.answer r.asked r.texts_are
 reads_given (file command graph) first second reading r = graph_given (File graph) first second reading r.answer r.asked r.texts_are
 reads_given (files command graph path) first second reading r = both_given graph path first second reading r.after r.answer r.asked r.goes_on
+reads_given (race graph path) first second reading r = both_given graph path first second reading r.after r.answer r.asked r.goes_on
 
 report_printed : (report : ReportText) (status : ℕ) (after : List Dealing) (answer : Result ⊤ DeliverFault) → after ≡ Print report.bytes answer ∷ [] → Ok status ≡ end_of_print report answer → (after ≡ Print report.bytes (Ok tt) ∷ []) × (status ≡ report.status)
 report_printed report status after (Ok done) e k = (e, ok_is status report.status k)

@@ -21,6 +21,7 @@ pub data CallWords : Type 0 where
   Input : CallWords
   File : CommandWords → List ℕ → CallWords
   Files : CommandWords → List ℕ → List ℕ → CallWords
+  Race : List ℕ → List ℕ → CallWords
 
 abbrev pub command_words : Command → CommandWords
 command_words command.Case = Case
@@ -35,12 +36,14 @@ abbrev pub call_words : Call → CallWords
 call_words call.Input = Input
 call_words (call.File c graph) = File (command_words c) graph.now
 call_words (call.Files c graph second) = Files (command_words c) graph.now second.now
+call_words (call.Race graph script) = Race graph.now script.now
 
--- the command of a call: a graph and rules in one text where nothing else is said
-abbrev pub command_of : CallWords → CommandWords
-command_of Input = Case
-command_of (File command graph) = command
-command_of (Files command graph second) = command
+-- the command of a call: a graph and rules in one text where nothing else is said; a race has none
+abbrev pub command_of : CallWords → Option CommandWords
+command_of Input = Some Case
+command_of (File command graph) = Some command
+command_of (Files command graph second) = Some command
+command_of (Race graph script) = None
 
 -- the commands on a graph
 abbrev pub graph_command : List ℕ → Option CommandWords
@@ -49,6 +52,11 @@ graph_command name = if bytes_eq name (codes "check") then Some Check else (if b
 -- the commands on a graph and a second text
 abbrev pub text_command : List ℕ → Option CommandWords
 text_command name = if bytes_eq name (codes "apply") then Some Apply else (if bytes_eq name (codes "run") then Some Run else None)
+
+-- the calls on a graph and a second text
+abbrev pub texts_call : List ℕ → List ℕ → List ℕ → Option CallWords
+texts_call name graph second =
+    if bytes_eq name (codes "race") then Some (Race graph second) else option_map (λ c. Files c graph second) (text_command name)
 
 -- the questions to a graph
 abbrev pub question : List ℕ → List ℕ → List ℕ → List ℕ → Option CommandWords
@@ -60,7 +68,7 @@ abbrev pub call_of : List (List ℕ) → Option CallWords
 call_of [] = Some Input
 call_of (name ∷ []) = None
 call_of (name ∷ graph ∷ []) = option_map (λ c. File c graph) (graph_command name)
-call_of (name ∷ graph ∷ second ∷ []) = option_map (λ c. Files c graph second) (text_command name)
+call_of (name ∷ graph ∷ second ∷ []) = texts_call name graph second
 call_of (name ∷ graph ∷ right ∷ x ∷ []) = None
 call_of (name ∷ graph ∷ right ∷ x ∷ y ∷ []) = option_map (λ c. File c graph) (question name right x y)
 call_of (name ∷ graph ∷ right ∷ x ∷ y ∷ z ∷ more) = None

@@ -9,8 +9,9 @@ use Rattle.officer.specs.declared.fetch.FetchFault.{FetchFault}
 use Rattle.officer.specs.declared.surroundings.WordsFault.{WordsFault}
 use Rattle.officer.specs.Faults.{cause_of_fetch, cause_of_words}
 use Rattle.officer.specs.Readings.{ReportText}
-use Rattle.officer.specs.Calls.{CallWords, Input as input, File as file, Files as files, CommandWords, call_of, command_of}
+use Rattle.officer.specs.Calls.{CallWords, Input as input, File as file, Files as files, Race as race, CommandWords, call_of, command_of}
 use Rattle.officer.specs.Reports.{IsReport}
+use Rattle.officer.specs.Races.{IsRaceReport}
 
 -- one question to the surroundings, and its answer
 pub data Dealing : Type 0 where
@@ -78,6 +79,7 @@ abbrev pub Reads : CallWords → Result (List ℕ × List ℕ) Cause → List De
 Reads input texts dealings = ReadsGraph Input texts dealings
 Reads (file command graph) texts dealings = ReadsGraph (File graph) texts dealings
 Reads (files command graph path) texts dealings = ReadsBoth graph path texts dealings
+Reads (race graph path) texts dealings = ReadsBoth graph path texts dealings
 
 -- the end after a report was printed: its status, unless the output did not take it
 abbrev pub end_of_print : ReportText → Result ⊤ DeliverFault → Result ℕ Cause
@@ -93,14 +95,19 @@ pub record Prints (report : ReportText) (end : Result ℕ Cause) (dealings : Lis
 abbrev pub Stops : Cause → Result ℕ Cause → List Dealing → Type 0
 Stops cause end dealings = (dealings ≡ []) × (end ≡ Err cause)
 
--- a report that the command may have for these texts was printed
-pub record PrintsReport (command : CommandWords) (first second : List ℕ) (end : Result ℕ Cause) (dealings : List Dealing) : Type 0 where
+-- a report that the command may have for these texts; without a command, that of a race
+abbrev pub IsReportOf : Option CommandWords → List ℕ → List ℕ → ReportText → Type 0
+IsReportOf (Some command) first second report = IsReport command first second report
+IsReportOf None first second report = IsRaceReport first second report
+
+-- such a report was printed
+pub record PrintsReport (command : Option CommandWords) (first second : List ℕ) (end : Result ℕ Cause) (dealings : List Dealing) : Type 0 where
   pub report : ReportText
-  pub is : IsReport command first second report
+  pub is : IsReportOf command first second report
   pub prints : Prints report end dealings
 
 -- what was done with the texts of a call: their report was printed, unless there was no memory to make it
-abbrev pub Answers : CommandWords → Result (List ℕ × List ℕ) Cause → Result ℕ Cause → List Dealing → Type 0
+abbrev pub Answers : Option CommandWords → Result (List ℕ × List ℕ) Cause → Result ℕ Cause → List Dealing → Type 0
 Answers command (Ok texts) end dealings = PrintsReport command texts.0 texts.1 end dealings ⊎ Stops Memory end dealings
 Answers command (Err cause) end dealings = Stops cause end dealings
 

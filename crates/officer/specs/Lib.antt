@@ -6,5 +6,7 @@ pub mod Runs
 pub mod Reports
 pub mod Outcomes
 pub mod Dealings
+pub mod Races
+pub mod RaceParts
 pub mod ReportLaws
 pub mod RunLaws

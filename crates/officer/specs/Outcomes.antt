@@ -1,5 +1,5 @@
 -- What the parts of a report's making bring.
-use Rattle.std.specs.Prelude.{◌≡◌, ⊤, All, ◌<◌, ℕ, nat_eq, bytes_eq, position, slice_get, map, filter, option_and_then, Bool, true, false, List, ◌++◌, ◌≤◌, length, Option, Some, None, Result, Ok, Err}
+use Rattle.std.specs.Prelude.{◌≡◌, ⊤, All, ◌<◌, ℕ, nat_eq, map, filter, Bool, true, false, List, ◌++◌, ◌≤◌, length, Option, Some, None, Result, Ok, Err}
 use Rattle.std.specs.List.{flat_map}
 use Rattle.std.specs.Option.{option_eq}
 use Rattle.tg_graph.specs.declared.rules.Refusal.{Refusal}
@@ -11,6 +11,7 @@ use Rattle.tg_graph.specs.Rules.{refusal_of, after}
 use Rattle.tg_text.specs.declared.rule_text.RuleLine.{RuleLine}
 use Rattle.tg_text.specs.declared.script_text.ScriptLine.{ScriptLine}
 use Rattle.tg_text.specs.ScriptText.{ScriptOf}
+use Rattle.tg_analysis.specs.Numbering.{number_of}
 use Rattle.tg_store.specs.declared.events.HallFault.{HallFault}
 use Rattle.tg_store.specs.declared.events.HallFault.TheVariants as hall
 use Rattle.tg_store.specs.declared.events.HallReply.{HallReply}
@@ -60,13 +61,9 @@ pub record HasPlayed (played : Played) (text text' : List ℕ) (end : Protection
   pub graph : end ≡ played.end
   pub verdict : status ≡ played.status
 
--- the number of a vertex's island, where the vertices have these numbers by position
-abbrev pub number_in : List Name → List ℕ → Name → Option ℕ
-number_in vs numbers v = option_and_then (λ place. slice_get numbers place) (position (bytes_eq v) vs)
-
 -- each name with its number
 abbrev pub numbered : List Name → List ℕ → List Name → List (Name × Option ℕ)
-numbered vs numbers names = map (λ v. (v, number_in vs numbers v)) names
+numbered vs numbers names = map (λ v. (v, number_of vs numbers v)) names
 
 -- the names with that number
 abbrev pub with_number : Option ℕ → List (Name × Option ℕ) → List Name

@@ -8,6 +8,7 @@ use Rattle.tg_graph.specs.declared.rules.Rule.{Rule}
 use Rattle.tg_graph.specs.Graphs.{Name, same_name, ProtectionGraph, has_vertex}
 use Rattle.tg_graph.specs.RuleLists.{CanShare}
 use Rattle.tg_graph.specs.Rules.{refusal_of, after}
+use Rattle.tg_text.specs.Limits.{most_line_bytes}
 use Rattle.tg_text.specs.declared.rule_text.RuleLine.{RuleLine}
 use Rattle.tg_text.specs.Lines.{lines_of, words_of}
 use Rattle.tg_text.specs.Reading.{◌>>=◌}
@@ -65,7 +66,7 @@ is_alone word (w ∷ v ∷ vs) = false
 
 -- the line that stands between a graph and rules
 abbrev pub parts_texts : List ℕ → Bool
-parts_texts line = nat_le (length line) 256 && is_alone (codes "rules") (words_of line)
+parts_texts line = nat_le (length line) most_line_bytes && is_alone (codes "rules") (words_of line)
 
 -- the lines, each with a line feed
 abbrev pub text_of : List (List ℕ) → List ℕ

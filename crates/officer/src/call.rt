@@ -1,17 +1,19 @@
 //! What the program does for its command line.
 ghost use Rattle.std.specs.Prelude.{◌≡◌, [], IfOk, Ok, map, string_bytes};
-ghost use Rattle.officer.specs.Calls.{call_words};
-ghost use Rattle.officer.specs.Dealings.{Deals, Reads, ReadsBoth, Prints, AnswersCall, IsRun, and_text, bytes_of, text_or, seen};
+ghost use Rattle.officer.specs.Calls.{call_words, command_of};
+ghost use Rattle.officer.specs.Dealings.{Deals, Reads, ReadsBoth, Prints, IsReportOf, AnswersCall, IsRun, and_text, bytes_of, text_or, seen};
 ghost use Rattle.officer.specs.Outcomes.{report_text};
 
 use crate::deliver::DeliverFault;
 use crate::fault::Cause;
 use crate::fetch::FetchFault;
 use crate::outcome::Report;
+use crate::race::race;
 use crate::report::report;
 use crate::surroundings::{Surroundings, WordsFault};
 use crate::words::{Call, read_words};
 use std::alloc::{AllocError, Global};
+use std::thread::Threads;
 
 // The texts of a command; where it has one text, the second is empty.
 #[derive(Drop)]
@@ -22,7 +24,8 @@ struct Texts {
 
 // A text that was read, or why it was not; an unreadable one has a cause of its own.
 fn text_or(answer: Result<Vec<u8>, FetchFault>, unreadable: Cause) -> Result<Vec<u8>, Cause>
-    ensures { seen (λ bytes. bytes.items) result ≡ text_or unreadable (seen (λ bytes. bytes.items) answer) }
+    ensures { seen (λ bytes. bytes.items) result
+        ≡ text_or unreadable (seen (λ bytes. bytes.items) answer) }
 {
     match answer {
         Ok(bytes) => Ok(bytes),
@@ -34,7 +37,8 @@ fn text_or(answer: Result<Vec<u8>, FetchFault>, unreadable: Cause) -> Result<Vec
 
 // The text of a graph alone.
 fn alone(alloc: Global, graph: Result<Vec<u8>, FetchFault>) -> Result<Texts, Cause>
-    ensures { seen bytes_of result ≡ and_text (text_or Cause.Graph (seen (λ bytes. bytes.items) graph)) (Ok []) }
+    ensures { seen bytes_of result
+        ≡ and_text (text_or Cause.Graph (seen (λ bytes. bytes.items) graph)) (Ok []) }
 {
     match text_or(graph, Cause::Graph) {
         Ok(first) => Ok(Texts {
@@ -47,7 +51,8 @@ fn alone(alloc: Global, graph: Result<Vec<u8>, FetchFault>) -> Result<Texts, Cau
 
 // The text of a graph and a second text.
 fn beside(first: Vec<u8>, second: Result<Vec<u8>, FetchFault>) -> Result<Texts, Cause>
-    ensures { seen bytes_of result ≡ and_text (Ok first.items) (text_or Cause.Second (seen (λ bytes. bytes.items) second)) }
+    ensures { seen bytes_of result
+        ≡ and_text (Ok first.items) (text_or Cause.Second (seen (λ bytes. bytes.items) second)) }
 {
     match text_or(second, Cause::Second) {
         Ok(second) => Ok(Texts { first, second }),
@@ -62,7 +67,8 @@ fn both<S: Surroundings>(
     graph: &str,
     second: &str,
 ) -> Result<Texts, Cause>
-    ensures { Deals (S.dealings surroundings.old) (S.dealings surroundings.new) (ReadsBoth graph.now second.now (seen bytes_of result)) }
+    ensures { Deals (S.dealings surroundings.old) (S.dealings surroundings.new)
+        (ReadsBoth graph.now second.now (seen bytes_of result)) }
 {
     match text_or(surroundings.file(alloc, graph), Cause::Graph) {
         Ok(first) => beside(first, surroundings.file(alloc, second)),
@@ -76,18 +82,21 @@ fn texts_of<S: Surroundings>(
     surroundings: &mut S,
     call: &Call,
 ) -> Result<Texts, Cause>
-    ensures { Deals (S.dealings surroundings.old) (S.dealings surroundings.new) (Reads (call_words call.now) (seen bytes_of result)) }
+    ensures { Deals (S.dealings surroundings.old) (S.dealings surroundings.new)
+        (Reads (call_words call.now) (seen bytes_of result)) }
 {
     match *call {
         Call::Input => alone(alloc, surroundings.input(alloc)),
         Call::File(_, graph) => alone(alloc, surroundings.file(alloc, graph)),
         Call::Files(_, graph, second) => both(alloc, surroundings, graph, second),
+        Call::Race(graph, script) => both(alloc, surroundings, graph, script),
     }
 }
 
 // Prints a report, and answers its status.
 fn print<S: Surroundings>(surroundings: &mut S, report: &Report) -> Result<u8, Cause>
-    ensures { Deals (S.dealings surroundings.old) (S.dealings surroundings.new) (Prints (report_text report.now) result) }
+    ensures { Deals (S.dealings surroundings.old) (S.dealings surroundings.new)
+        (Prints (report_text report.now) result) }
 {
     match surroundings.print(&report.bytes) {
         Ok(()) => Ok(report.status),
@@ -95,15 +104,43 @@ fn print<S: Surroundings>(surroundings: &mut S, report: &Report) -> Result<u8, C
     }
 }
 
-// Reads the texts of a call, and prints its report.
-fn answer<S: Surroundings>(alloc: Global, surroundings: &mut S, call: &Call) -> Result<u8, Cause>
-    ensures { Deals (S.dealings surroundings.old) (S.dealings surroundings.new) (AnswersCall (call_words call.now) result) }
+// The report of a call for its texts.
+fn report_of<R: Threads + Sync + AllocGlobal>(
+    rt: &R,
+    call: &Call,
+    texts: &Texts,
+) -> Result<Report, AllocError>
+    ensures { IfOk result
+        (λ report. IsReportOf
+        (command_of (call_words call.now)) texts.now.first.items texts.now.second.items
+        (report_text report)) }
 {
-    let texts = match texts_of(alloc, surroundings, call) {
+    match call.command() {
+        Some(command) => {
+            let made = report(rt.alloc(), &command, &texts.first, &texts.second)?;
+            Ok(made)
+        }
+        None => {
+            let made = race(rt, &texts.first, &texts.second)?;
+            Ok(made)
+        }
+    }
+}
+
+// Reads the texts of a call, and prints its report.
+fn answer<R: Threads + Sync + AllocGlobal, S: Surroundings>(
+    rt: &R,
+    surroundings: &mut S,
+    call: &Call,
+) -> Result<u8, Cause>
+    ensures { Deals (S.dealings surroundings.old) (S.dealings surroundings.new)
+        (AnswersCall (call_words call.now) result) }
+{
+    let texts = match texts_of(rt.alloc(), surroundings, call) {
         Ok(texts) => texts,
         Err(cause) => return Err(cause),
     };
-    match report(alloc, &call.command(), &texts.first, &texts.second) {
+    match report_of(rt, call, &texts) {
         Ok(report) => print(surroundings, &report),
         Err(AllocError) => Err(Cause::Memory),
     }
@@ -111,7 +148,8 @@ fn answer<S: Surroundings>(alloc: Global, surroundings: &mut S, call: &Call) -> 
 
 // The words as slices.
 fn slices<'a>(alloc: Global, words: &'a [String]) -> Result<Vec<&'a str>, AllocError>
-    ensures { IfOk result (λ slices. map (λ word. word.now) slices.items ≡ map string_bytes words.now) }
+    ensures { IfOk result
+        (λ slices. map (λ word. word.now) slices.items ≡ map string_bytes words.now) }
 {
     let mut slices = Vec::with_capacity(alloc, words.len())?;
     for word in words {
@@ -120,23 +158,28 @@ fn slices<'a>(alloc: Global, words: &'a [String]) -> Result<Vec<&'a str>, AllocE
     Ok(slices)
 }
 
-/// Prints the report that the words of the command line ask for. It answers the status of the report.
+/// Prints the report that the words of the command line ask for. It answers the status of the
+/// report.
 ///
-/// The words come first, then the graph, and a second file only once the graph is there. An error means that one of
-/// these did not come, that there was no memory, or that the output did not take the report.
-pub fn run<S: Surroundings>(alloc: Global, surroundings: &mut S) -> Result<u8, Cause>
+/// The words come first, then the graph, and a second file only once the graph is there. An error
+/// means that one of these did not come, that there was no memory, or that the output did not take
+/// the report.
+pub fn run<R: Threads + Sync + AllocGlobal, S: Surroundings>(
+    rt: &R,
+    surroundings: &mut S,
+) -> Result<u8, Cause>
     ensures { Deals (S.dealings surroundings.old) (S.dealings surroundings.new) (IsRun result) }
 {
-    let words = match surroundings.words(alloc) {
+    let words = match surroundings.words(rt.alloc()) {
         Ok(words) => words,
         Err(WordsFault::Unreadable) => return Err(Cause::Words),
         Err(WordsFault::Memory) => return Err(Cause::Memory),
     };
-    let Ok(words) = slices(alloc, &words) else {
+    let Ok(words) = slices(rt.alloc(), &words) else {
         return Err(Cause::Memory);
     };
     match read_words(&words) {
-        Some(call) => answer(alloc, surroundings, &call),
+        Some(call) => answer(rt, surroundings, &call),
         None => Err(Cause::Words),
     }
 }

@@ -38,7 +38,8 @@ impl From<AllocError> for FetchFault {
     }
 }
 
-// Appends the bytes of one read, none of one that was interrupted. It answers whether the reader was at its end.
+// Appends the bytes of one read, none of one that was interrupted. It answers whether the reader
+// was at its end.
 fn read_on<R: Read>(
     reader: &mut R,
     piece: &mut [u8],
@@ -46,7 +47,8 @@ fn read_on<R: Read>(
 ) -> Result<bool, FetchFault>
     requires room { 0 < length piece.old }
     requires within { vec_len bytes.old ≤ most_input_bytes }
-    ensures { TakesIn (R.remaining reader.old) (R.remaining reader.new) bytes.old.items bytes.new.items result }
+    ensures { TakesIn (R.remaining reader.old)
+        (R.remaining reader.new) bytes.old.items bytes.new.items result }
 {
     let count = match reader.read(piece) {
         Ok(count) => count,
@@ -62,10 +64,12 @@ fn read_on<R: Read>(
 
 /// All bytes that a reader gives up to its end. A read that was interrupted is tried again.
 pub fn fetch<R: Read>(alloc: Global, reader: &mut R) -> Result<Vec<u8>, FetchFault>
-    ensures whole { IfOk result (λ bytes. IfSome (R.remaining reader.old) (λ given. bytes.items ≡ given)) }
+    ensures whole { IfOk result
+        (λ bytes. IfSome (R.remaining reader.old) (λ given. bytes.items ≡ given)) }
     ensures within { IfOk result (λ bytes. vec_len bytes ≤ most_input_bytes) }
     ensures ended { OnOk result (IsAtEnd (R.remaining reader.new)) }
-    ensures too_large { IsErrOf result FetchFault.TooLarge → IfSome (R.remaining reader.old) (λ given. most_input_bytes < length given) }
+    ensures too_large { IsErrOf result FetchFault.TooLarge
+        → IfSome (R.remaining reader.old) (λ given. most_input_bytes < length given) }
 {
     let mut piece = [0; 16_384];
     let mut bytes = Vec::new(alloc);

@@ -104,7 +104,9 @@ pub(crate) struct Question {
 }
 
 fn word_refusal(alloc: Global, words: &str) -> Result<Report, AllocError>
-    ensures { IfOk result (λ report. report_text report ≡ record { bytes = codes "refused " ++ words.now ++ 10 ∷ []; status = 1 }) }
+    ensures { IfOk result
+        (λ report. report_text report
+        ≡ record { bytes = codes "refused " ++ words.now ++ 10 ∷ []; status = 1 }) }
 {
     let line = format!(in alloc; "refused {words}\n")?;
     Ok(Report {

@@ -4,20 +4,13 @@ ghost use Rattle.std.specs.Map.{keys_of};
 ghost use Rattle.std.specs.List.{flat_map};
 ghost use Rattle.tg_graph.specs.GraphOf.{graph_of};
 ghost use Rattle.officer.specs.Reports.{AreIslandLines, island_line};
-ghost use Rattle.officer.specs.Outcomes.{report_text, number_in, numbered, with_number, numbered_text};
+ghost use Rattle.officer.specs.Outcomes.{report_text, numbered, with_number, numbered_text};
 
 use crate::outcome::Report;
 use std::alloc::{AllocError, Global};
 use tg_analysis::{Islands, islands};
 use tg_graph::{Graph, Name};
 use tg_text::names_in_order;
-
-// The number of the island of a vertex.
-fn number_of(graph: &Graph, islands: &Islands, name: Name) -> Option<usize>
-    ensures { result ≡ number_in (keys_of graph.now) islands.now name }
-{
-    islands.of(graph.position(name)?)
-}
 
 // The names with the numbers of their islands.
 fn numbered(
@@ -26,11 +19,12 @@ fn numbered(
     islands: &Islands,
     names: &[Name],
 ) -> Result<Vec<(Name, Option<usize>)>, AllocError>
-    ensures { IfOk result (λ entries. entries.items ≡ numbered (keys_of graph.now) islands.now names.now) }
+    ensures { IfOk result
+        (λ entries. entries.items ≡ numbered (keys_of graph.now) islands.now names.now) }
 {
     let mut entries = Vec::with_capacity(alloc, names.len())?;
     for name in names {
-        entries.push((*name, number_of(graph, islands, *name)))?;
+        entries.push((*name, islands.number_of(graph, *name)))?;
     }
     Ok(entries)
 }

@@ -1,4 +1,5 @@
-//! Laws of the reports and of the program's runs. Each function does nothing: its contract is the law.
+//! Laws of the reports and of the program's runs. Each function does nothing: its contract is the
+//! law.
 ghost use Rattle.officer.specs.ReportLaws.{CanonicalTextsStay, DerivationsGiveTheRight, IslandsAreLines, RulesStopAtRefusal, ThereIsOneReport};
 ghost use Rattle.officer.specs.RunLaws.{RunsPrintReports};
 
@@ -7,8 +8,8 @@ pub fn rules_stop_at_refusal()
     ensures { RulesStopAtRefusal }
 {}
 
-/// The report of a derivation on a graph of at most `MOST_VERTICES` is a text of rules: carried out on the same graph,
-/// none is refused, and they give the right that was asked for.
+/// The report of a derivation on a graph of at most `MOST_VERTICES` is a text of rules: carried out
+/// on the same graph, none is refused, and they give the right that was asked for.
 pub fn derivations_give_the_right()
     ensures { DerivationsGiveTheRight }
 {}
@@ -23,13 +24,14 @@ pub fn there_is_one_report()
     ensures { ThereIsOneReport }
 {}
 
-/// What is printed for the islands of a graph is one line for each, and each vertex stands on one of them, once.
+/// What is printed for the islands of a graph is one line for each, and each vertex stands on one
+/// of them, once.
 pub fn islands_are_lines()
     ensures { IslandsAreLines }
 {}
 
-/// A run that ends with a status has printed the report of the call that the words have, for the texts that were there,
-/// and done nothing else; the status is the report's.
+/// A run that ends with a status has printed the report of the call that the words have, for the
+/// texts that were there, and done nothing else; the status is the report's.
 pub fn runs_print_reports()
     ensures { RunsPrintReports }
 {}

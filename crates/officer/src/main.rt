@@ -16,6 +16,10 @@ pub mod outcome;
 mod outcome_lines;
 mod parts;
 mod playing;
+pub mod race;
+mod race_lines;
+#[cfg(test)]
+mod race_tests;
 pub mod report;
 #[cfg(test)]
 mod run_tests;
@@ -28,6 +32,7 @@ mod surroundings_tests;
 mod test_reports;
 #[cfg(test)]
 mod tests;
+mod turns;
 pub mod words;
 
 use call::run;
@@ -36,7 +41,7 @@ use std::process::ExitCode;
 use surroundings::Process;
 
 fn main(rt: HostRuntime) -> ExitCode {
-    match run(rt.alloc(), &mut Process::new(&rt)) {
+    match run(&rt, &mut Process::new(&rt)) {
         Ok(status) => ExitCode::from(status),
         Err(cause) => {
             let (line, status) = fault_line(cause);

@@ -10,7 +10,7 @@ use tg_store::{HallFault, HallReply};
 use tg_text::{ScriptLine, append_number, append_reply};
 
 // Appends words, and the number of a place.
-fn append_place(text: &mut Vec<u8>, words: &[u8], place: usize) -> Result<(), AllocError>
+pub(crate) fn append_place(text: &mut Vec<u8>, words: &[u8], place: usize) -> Result<(), AllocError>
     ensures { OnOk result (text.new.items ≡ text.old.items ++ (words.now ++ decimal place)) }
 {
     text.extend_from_slice(words)?;
@@ -20,7 +20,8 @@ fn append_place(text: &mut Vec<u8>, words: &[u8], place: usize) -> Result<(), Al
 
 // Appends that a record ended the session: the place of the record, and the name that it wrote.
 fn append_changed(text: &mut Vec<u8>, place: usize, name: Name) -> Result<(), AllocError>
-    ensures { OnOk result (text.new.items ≡ text.old.items ++ spaced (fault_words (HallFault.Changed place name))) }
+    ensures { OnOk result
+        (text.new.items ≡ text.old.items ++ spaced (fault_words (HallFault.Changed place name))) }
 {
     append_place(text, b"refused changed ", place)?;
     text.push(b' ')?;
@@ -47,9 +48,10 @@ fn append_fault(text: &mut Vec<u8>, fault: HallFault) -> Result<(), AllocError>
 }
 
 // Appends what an act came to. It fails for want of memory, the act's own included.
-fn append_outcome(text: &mut Vec<u8>, answer: &HallReply) -> Result<(), AllocError>
+pub(crate) fn append_outcome(text: &mut Vec<u8>, answer: &HallReply) -> Result<(), AllocError>
     requires { MayBeTold answer.now }
-    ensures appended { OnOk result (text.new.items ≡ text.old.items ++ spaced (outcome_words answer.now)) }
+    ensures appended { OnOk result
+        (text.new.items ≡ text.old.items ++ spaced (outcome_words answer.now)) }
     ensures told { OnOk result (0 < length (outcome_words answer.now)) }
 {
     match *answer {
@@ -69,7 +71,8 @@ pub(crate) fn append_line(
     answer: &HallReply,
 ) -> Result<(), AllocError>
     requires { MayBeTold answer.now }
-    ensures appended { OnOk result (text.new.items ≡ text.old.items ++ outcome_line event.now answer.now) }
+    ensures appended { OnOk result
+        (text.new.items ≡ text.old.items ++ outcome_line event.now answer.now) }
     ensures told { OnOk result (0 < length (outcome_words answer.now)) }
 {
     append_number(text, event.line)?;

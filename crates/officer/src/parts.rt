@@ -3,13 +3,13 @@ ghost use Rattle.std.specs.Prelude.{◌≡◌};
 ghost use Rattle.tg_text.specs.Lines.{lines_of};
 ghost use Rattle.officer.specs.Reports.{parts_texts, graph_part, rules_part};
 
-use tg_text::{MAX_LINE, cut_line, cut_word};
+use tg_text::{MOST_LINE_BYTES, cut_line, cut_word};
 
 // Whether a line stands between a graph and rules.
 fn parts_texts(line: &[u8]) -> bool
     ensures { result ≡ parts_texts line.now }
 {
-    if line.len() > MAX_LINE {
+    if line.len() > MOST_LINE_BYTES {
         return false;
     }
     match cut_word(line) {

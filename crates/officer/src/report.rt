@@ -47,7 +47,8 @@ fn apply(alloc: Global, first: &[u8], second: &[u8]) -> Result<Report, Halt>
 }
 
 fn case(alloc: Global, input: &[u8]) -> Result<Report, Halt>
-    ensures { Brings report_text result (apply_report (graph_part input.now) (rules_part input.now)) }
+    ensures { Brings report_text result
+        (apply_report (graph_part input.now) (rules_part input.now)) }
 {
     let (first, second) = parts_of(input);
     apply(alloc, first, second)
@@ -55,15 +56,16 @@ fn case(alloc: Global, input: &[u8]) -> Result<Report, Halt>
 
 /// The report of a command for its texts. A command of one text leaves the second aside.
 ///
-/// An error means that there was no memory. Until there is a command that starts threads, the allocator is all
-/// that it needs of the runtime.
+/// An error means that there was no memory. Until there is a command that starts threads, the
+/// allocator is all that it needs of the runtime.
 pub fn report(
     alloc: Global,
     command: &Command,
     first: &[u8],
     second: &[u8],
 ) -> Result<Report, AllocError>
-    ensures { IfOk result (λ report. IsReport (command_words command.now) first.now second.now (report_text report)) }
+    ensures { IfOk result
+        (λ report. IsReport (command_words command.now) first.now second.now (report_text report)) }
 {
     let made = match *command {
         Command::Case => case(alloc, first),

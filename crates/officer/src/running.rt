@@ -54,7 +54,8 @@ fn hall_for(alloc: Global, graph: &Graph, script: &Script) -> Result<Hall, Alloc
 fn played(alloc: Global, graph: &Graph, script: &Script) -> Result<Report, AllocError>
     requires small { length (graph_of graph.now).vertices ≤ most_vertices }
     requires playable { IsPlayableScript (script_of script.now) }
-    ensures { IfOk result (λ report. IsPlayed (graph_of graph.now) (script_of script.now) (report_text report)) }
+    ensures { IfOk result
+        (λ report. IsPlayed (graph_of graph.now) (script_of script.now) (report_text report)) }
 {
     let mut hall = hall_for(alloc, graph, script)?;
     let mut bytes = play_all(alloc, &mut hall, &script.lines)?;
@@ -65,7 +66,8 @@ fn played(alloc: Global, graph: &Graph, script: &Script) -> Result<Report, Alloc
 
 /// The report of a script: the outcomes of its events, and the graph that all records lead to.
 pub(crate) fn run(alloc: Global, first: &[u8], second: &[u8]) -> Result<Report, Halt>
-    ensures { Makes (IsFor (λ p. IsPlayed p.graph p.script) (playing_in first.now second.now)) result }
+    ensures { Makes (IsFor (λ p. IsPlayed p.graph p.script) (playing_in first.now second.now))
+        result }
 {
     let graph = graph_in(alloc, first)?;
     let script = script_in(alloc, second)?;

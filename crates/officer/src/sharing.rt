@@ -14,7 +14,8 @@ use tg_text::{append_number, append_rule};
 
 // The line of bytes as a report.
 fn line(alloc: Global, words: &[u8]) -> Result<Report, AllocError>
-    ensures { IfOk result (λ report. report_text report ≡ record { bytes = words.now; status = 0 }) }
+    ensures { IfOk result
+        (λ report. report_text report ≡ record { bytes = words.now; status = 0 }) }
 {
     Ok(Report {
         bytes: Vec::from_slice(alloc, words)?,

@@ -21,7 +21,8 @@ pub enum WordsFault {
     Memory,
 }
 
-/// What the program deals with: the words of its command line, the texts that it reads, and the output.
+/// What the program deals with: the words of its command line, the texts that it reads, and the
+/// output.
 pub trait Surroundings {
     // What was asked so far, with the answers, in order, where that is known.
     ghost dealings: { Self → Option (List Dealing) } = { λ _. None };

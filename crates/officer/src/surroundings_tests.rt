@@ -8,6 +8,7 @@ use std::alloc::{AllocError, Global};
 use std::io::{Error, ErrorKind, Read, Write};
 use std::process::Abort;
 use std::test::Fail;
+use std::thread::Threads;
 use std::{env, fs, io};
 
 // Gives three bytes, and fails from then on.
@@ -237,8 +238,9 @@ fn held_words(alloc: Global, words: &[&str]) -> Result<Vec<String>, AllocError> 
     Ok(strings)
 }
 
-// Surroundings in memory, in which each question may fail. The files are `g` and `h`. It keeps a letter for each
-// question: `w` for the words, `i` for standard input, a file's name, and `p` for the output.
+// Surroundings in memory, in which each question may fail. The files are `g` and `h`. It keeps a
+// letter for each question: `w` for the words, `i` for standard input, a file's name, and `p` for
+// the output.
 #[derive(Drop)]
 struct Desk<'a> {
     words: Held<&'a [&'a str]>,
@@ -310,7 +312,7 @@ fn desk_for<'a>(alloc: Global, words: &'a [&'a str]) -> Desk<'a> {
 }
 
 // The program at a desk asks these questions, prints these bytes and ends with this status.
-fn prints<R: Abort + AllocGlobal>(
+fn prints<R: Abort + Threads + Sync + AllocGlobal>(
     rt: &R,
     words: &[&str],
     asked: &[u8],
@@ -318,14 +320,19 @@ fn prints<R: Abort + AllocGlobal>(
     status: u8,
 ) {
     let mut desk = desk_for(rt.alloc(), words);
-    assert!(rt; run(rt.alloc(), &mut desk) == Ok(status));
+    assert!(rt; run(rt, &mut desk) == Ok(status));
     assert!(rt; desk.asked.as_slice() == asked);
     assert!(rt; desk.printed.as_slice() == printed);
 }
 
 // The program at a desk asks these questions and ends for this cause, and nothing is printed.
-fn stops<R: Abort + AllocGlobal>(rt: &R, mut desk: Desk<'_>, asked: &[u8], cause: Cause) {
-    assert!(rt; run(rt.alloc(), &mut desk) == Err(cause));
+fn stops<R: Abort + Threads + Sync + AllocGlobal>(
+    rt: &R,
+    mut desk: Desk<'_>,
+    asked: &[u8],
+    cause: Cause,
+) {
+    assert!(rt; run(rt, &mut desk) == Err(cause));
     assert!(rt; desk.asked.as_slice() == asked);
     assert!(rt; desk.printed.is_empty());
 }

@@ -1,7 +1,7 @@
 //! What the command line asks for.
 ghost use Rattle.std.specs.Prelude.{◌≡◌, map};
 ghost use Rattle.std.specs.Option.{option_map};
-ghost use Rattle.officer.specs.Calls.{call_of, call_words, command_of, command_words, graph_command, text_command, question};
+ghost use Rattle.officer.specs.Calls.{call_of, call_words, command_of, command_words, graph_command, text_command, texts_call, question};
 
 /// A report to make, with the words of the command line as they were given.
 #[derive(Clone, Copy, PartialEq, Eq, Debug)]
@@ -39,16 +39,19 @@ pub enum Call<'a> {
     File(Command<'a>, &'a str),
     /// The graph and a second text stand in files.
     Files(Command<'a>, &'a str, &'a str),
+    /// The graph and a script stand in files, and the seats of the script race.
+    Race(&'a str, &'a str),
 }
 
 impl<'a> Call<'a> {
-    /// The command whose report is asked for.
-    pub fn command(&self) -> Command<'a>
-        ensures { command_words result ≡ command_of (call_words self.now) }
+    /// The command whose report is asked for; a race has none.
+    pub fn command(&self) -> Option<Command<'a>>
+        ensures { option_map command_words result ≡ command_of (call_words self.now) }
     {
         match *self {
-            Call::Input => Command::Case,
-            Call::File(command, _) | Call::Files(command, _, _) => command,
+            Call::Input => Some(Command::Case),
+            Call::File(command, _) | Call::Files(command, _, _) => Some(command),
+            Call::Race(_, _) => None,
         }
     }
 }
@@ -73,6 +76,15 @@ fn text_command(name: &str) -> Option<Command<'static>>
     }
 }
 
+fn texts_call<'a>(name: &str, graph: &'a str, second: &'a str) -> Option<Call<'a>>
+    ensures { option_map call_words result ≡ texts_call name.now graph.now second.now }
+{
+    match name {
+        "race" => Some(Call::Race(graph, second)),
+        _ => Some(Call::Files(text_command(name)?, graph, second)),
+    }
+}
+
 fn question<'a>(name: &str, right: &'a str, x: &'a str, y: &'a str) -> Option<Command<'a>>
     ensures { option_map command_words result ≡ question name.now right.now x.now y.now }
 {
@@ -90,7 +102,7 @@ pub fn read_words<'a>(words: &[&'a str]) -> Option<Call<'a>>
     match words {
         [] => Some(Call::Input),
         [name, graph] => Some(Call::File(graph_command(name)?, graph)),
-        [name, graph, second] => Some(Call::Files(text_command(name)?, graph, second)),
+        [name, graph, second] => texts_call(name, graph, second),
         [name, graph, right, x, y] => Some(Call::File(question(name, right, x, y)?, graph)),
         _ => None,
     }

@@ -11,7 +11,8 @@ use tg_graph::{Graph, Name, Right};
 
 /// Whether some list of rules, each accepted in its turn, gives x the right over y.
 ///
-/// The errors are `Unknown` with the first of x and y that is no vertex, and want of memory. It is never `TooLarge`.
+/// The errors are `Unknown` with the first of x and y that is no vertex, and want of memory. It is
+/// never `TooLarge`.
 pub fn can_share(
     alloc: Global,
     graph: &Graph,
@@ -20,8 +21,10 @@ pub fn can_share(
     y: Name,
 ) -> Result<bool, AskFault>
     ensures known { OnOk result (question_fault (graph_of graph.now) x y ≡ None) }
-    ensures exact { IfOk result (λ answer. IsTrue answer ↔ CanShare (graph_of graph.now) right x y) }
-    ensures no { IfOk result (λ answer. answer ≡ false → CanShare (graph_of graph.now) right x y → ⊥) }
+    ensures exact { IfOk result
+        (λ answer. IsTrue answer ↔ CanShare (graph_of graph.now) right x y) }
+    ensures no { IfOk result
+        (λ answer. answer ≡ false → CanShare (graph_of graph.now) right x y → ⊥) }
     ensures fault { IfErr result (IsDueFault (question_fault (graph_of graph.now) x y)) }
 {
     if !graph.knows(x) {

@@ -67,12 +67,13 @@ fn derive(
     }
 }
 
-/// A list of rules that gives `x` the right over `y`, accepted one after another; none where no list does.
+/// A list of rules that gives `x` the right over `y`, accepted one after another; none where no
+/// list does.
 ///
-/// The right goes along a shortest chain of links from a vertex that holds it, the one that is found
-/// breadth first from `x` with neighbours in name order. Each link costs one rule or four, those of the
-/// first case that holds; a helper is the vertex `_k` with the least number k that is not in use. A right
-/// already held costs no rule.
+/// The right goes along a shortest chain of links from a vertex that holds it, the one that is
+/// found breadth first from `x` with neighbours in name order. Each link costs one rule or four,
+/// those of the first case that holds; a helper is the vertex `_k` with the least number k that is
+/// not in use. A right already held costs no rule.
 ///
 /// # Errors
 /// - `Unknown`: the first of `x` and `y` that is no vertex.

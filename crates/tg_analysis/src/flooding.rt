@@ -57,7 +57,8 @@ impl Flood {
     ///
     /// The one error is want of memory.
     pub fn meet_neighbours(&mut self, links: &Links, position: usize) -> Result<(), AllocError>
-        requires { (b : ℕ) → is_near links.now position b ≡ true → b < length self.old.numbers.items }
+        requires { (b : ℕ) → is_near links.now position b ≡ true
+            → b < length self.old.numbers.items }
         ensures { OnOk result (Meets (neighbours links.now position) self.old self.new) }
     {
         for neighbour in links.at(position) {

@@ -11,7 +11,8 @@ use tg_graph::Name;
 
 /// The vertices that a search has met, in the order in which it met them.
 ///
-/// With each stands the place of the one by which it was first met; the place of the first says nothing.
+/// With each stands the place of the one by which it was first met; the place of the first says
+/// nothing.
 #[derive(Drop)]
 pub struct Met {
     places: IndexMap<Name, usize>,

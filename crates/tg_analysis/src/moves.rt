@@ -104,7 +104,8 @@ fn free_helper(graph: &Graph, next: u32) -> u32
     ensures from { next ≤ result }
     ensures within { result ≤ next + length graph.now }
     ensures free { has_vertex (graph_of graph.now) (helper_name result) ≡ false }
-    ensures least { (k : ℕ) → next ≤ k → k < result → has_vertex (graph_of graph.now) (helper_name k) ≡ true }
+    ensures least { (k : ℕ) → next ≤ k → k < result
+        → has_vertex (graph_of graph.now) (helper_name k) ≡ true }
 {
     let mut number = next;
     while graph.knows(Name::helper(number)) {
@@ -113,7 +114,8 @@ fn free_helper(graph: &Graph, next: u32) -> u32
     number
 }
 
-/// Adds the rules by which `p` gets the right over `y` from `q`, which has it after the rules so far.
+/// Adds the rules by which `p` gets the right over `y` from `q`, which has it after the rules so
+/// far.
 ///
 /// The numbers of the helpers so far are below `next`; the result takes its place.
 /// The one error is want of memory.

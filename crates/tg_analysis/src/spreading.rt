@@ -67,12 +67,14 @@ fn is_holder(graph: &Graph, asked: &Asked, position: usize) -> bool
     }
 }
 
-// A flood from one vertex. A row is read when the flood comes to its vertex, or to find links that lead back to the flood.
+// A flood from one vertex. A row is read when the flood comes to its vertex, or to find links that
+// lead back to the flood.
 #[derive(Drop)]
 struct Spread {
     // Positions that were met have a number.
     flood: Flood,
-    // For each position those whose rows were read before they were met, and which an edge links to it.
+    // For each position those whose rows were read before they were met, and which an edge links to
+    // it.
     back: Links,
     // How many positions were met and taken.
     followed: usize,
@@ -92,10 +94,12 @@ impl Spread {
         })
     }
 
-    // Meets the positions that are linked to one, by its own edges and by those that were found to lead to it.
+    // Meets the positions that are linked to one, by its own edges and by those that were found to
+    // lead to it.
     fn follow(&mut self, graph: &Graph, position: usize) -> Result<(), AllocError>
         requires len { length self.old.flood.numbers.items ≡ length (keys_of graph.now) }
-        requires within { (a : ℕ) → is_near self.old.back position a ≡ true → a < length (keys_of graph.now) }
+        requires within { (a : ℕ) → is_near self.old.back position a ≡ true
+            → a < length (keys_of graph.now) }
         ensures { OnOk result (Follows graph.now position self.old self.new) }
     {
         self.flood.meet_row(graph, position)?;
@@ -106,7 +110,8 @@ impl Spread {
     // The same, unless each position was met.
     fn follow_on(&mut self, graph: &Graph, position: usize) -> Result<(), AllocError>
         requires len { length self.old.flood.numbers.items ≡ length (keys_of graph.now) }
-        requires within { (a : ℕ) → is_near self.old.back position a ≡ true → a < length (keys_of graph.now) }
+        requires within { (a : ℕ) → is_near self.old.back position a ≡ true
+            → a < length (keys_of graph.now) }
         requires count { work_left self.old.flood + self.old.followed ≡ length (keys_of graph.now) }
         ensures { OnOk result (FollowsOn graph.now position self.old self.new) }
     {
@@ -134,7 +139,8 @@ impl Spread {
         Ok(false)
     }
 
-    // Notes the edge at a place in the row of a position that was not met, unless it leads to one that was, and says so.
+    // Notes the edge at a place in the row of a position that was not met, unless it leads to one
+    // that was, and says so.
     fn read_edge(
         &mut self,
         graph: &Graph,
@@ -192,7 +198,9 @@ impl Spread {
     fn search(&mut self, graph: &Graph, asked: &Asked) -> Result<bool, AllocError>
         requires spread { IsSpread graph.now asked.now self.old.flood.waiting.items self.old }
         requires source { has_vertex (graph_of graph.now) asked.now.x ≡ true }
-        ensures { IfOk result (λ found. IsTrue found ↔ HeldInIsland (graph_of graph.now) asked.now.right asked.now.x asked.now.y) }
+        ensures { IfOk result
+            (λ found. IsTrue found
+            ↔ HeldInIsland (graph_of graph.now) asked.now.right asked.now.x asked.now.y) }
     {
         let count = graph.len();
         if self.run(graph, asked)? {
@@ -213,7 +221,9 @@ impl Spread {
 pub fn island_holds(alloc: Global, graph: &Graph, asked: &Asked) -> Result<bool, AllocError>
     requires source { has_vertex (graph_of graph.now) asked.now.x ≡ true }
     requires target { has_vertex (graph_of graph.now) asked.now.y ≡ true }
-    ensures { IfOk result (λ found. IsTrue found ↔ CanShare (graph_of graph.now) asked.now.right asked.now.x asked.now.y) }
+    ensures { IfOk result
+        (λ found. IsTrue found
+        ↔ CanShare (graph_of graph.now) asked.now.right asked.now.x asked.now.y) }
 {
     laws::shared_exactly();
     let count = graph.len();

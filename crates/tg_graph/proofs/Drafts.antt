@@ -22,7 +22,7 @@ use Rattle.tg_graph.specs.Rules.{with_rights, without_rights, with_vertex}
 use Rattle.tg_graph.specs.Drafts.{Changes, is_created, laid_over, Fits, AreRows, IsDraft, PutsRow}
 use Rattle.tg_graph.proofs.NewNames.{is_among, new_names, filter-alike, among-filter, not_among, set-new, set-push}
 use Rattle.tg_graph.proofs.Rows.{symm, same_bytes, row_none}
-use Rattle.tg_graph.proofs.Graphs.{AltersRow, none_from_unknown, graph-adds, is_graph-adds, graph-takes, is_graph-takes, graph-creates, is_graph-creates}
+use Rattle.tg_graph.proofs.Graphs.{AltersRow, graph-adds, is_graph-adds, graph-takes, is_graph-takes, graph-creates, is_graph-creates}
 
 -- ---- one row put in
 same_answer : {X : Type 0} (b : Bool) (x y z : X) → cond b x z ≡ cond b x (cond b y z)

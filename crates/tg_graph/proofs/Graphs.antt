@@ -1,12 +1,13 @@
 -- What a change of one row, or one more vertex, does to the graph.
-use Rattle.std.proofs.Common.{◌≡◌, ℕ, Bool, true, false, cond, List, [], ◌∷◌, ◌++◌, Option, Some, None, refl, sym, ap, subst, ◌∙◌, bytes_eq, IfSome, IsSome, ◌&&◌, ◌||◌, not, unwrap_or, is_some, true≢false, MatchBool}
+use Rattle.std.proofs.Common.{◌≡◌, ℕ, Bool, true, false, cond, List, [], ◌∷◌, ◌++◌, Option, Some, None, refl, sym, ap, subst, ◌∙◌, bytes_eq, IfSome, ◌&&◌, ◌||◌, not, unwrap_or, is_some, true≢false, MatchBool}
 use Rattle.std.specs.Option.{option_map_or}
 use Rattle.std.proofs.Math.Bool.{or-false, or-true, and-true}
 use Rattle.std.specs.List.{list_any}
-use Rattle.std.specs.Map.{keys_of, lookup}
+use Rattle.std.specs.Map.{keys_of, lookup, set_value}
 use Rattle.std.specs.Cmp.Lexicographic.{nat_list_eq_equiv}
 use Rattle.std.proofs.lemmas.Map.{lookup-set_value, keys-set_value}
 use Rattle.std.proofs.lemmas.Map.Made.{is_some-lookup}
+use Rattle.std.proofs.lemmas.Map.Steps.{set_value_same}
 use Rattle.std.specs.List.{IsDistinct}
 use Rattle.tg_graph.specs.declared.right_sets.Right.{Right}
 use Rattle.tg_graph.specs.declared.right_sets.Rights.{Rights}
@@ -42,6 +43,25 @@ alters {old = old} {x = x} c = record {
   changed = c.changed;
   row = c.row;
 }
+
+-- the row of x is found, and put back as it is now
+module _ (old new : Entries) (x : List ℕ) (row after : Edges) (found : Some row ≡ lookup (bytes_eq x) old) (put : new ≡ set_value (bytes_eq x) old after) where
+  pub changes-found : {P : Edges → Edges → Type 0} → P row after → IsRow after → ChangesRow P old new x
+  changes-found changed r = record {
+    before = row;
+    after = after;
+    found = sym found;
+    put = put;
+    changed = changed;
+    row = r;
+  }
+
+  pub same-found : after ≡ row → new ≡ old
+  same-found e = put ∙ ap (set_value (bytes_eq x) old) e ∙ set_value_same (bytes_eq x) old row (sym found)
+
+  pub joins-found : (P : Edges → Edges → Type 0) (added : Bool) → MatchBool added (P row after) (after ≡ row) → IsRow after → MatchBool added (ChangesRow P old new x) (new ≡ old)
+  joins-found P true changed r = changes-found changed r
+  joins-found P false e r = same-found e
 
 module _ {P : Edges → Edges → Type 0} (old new : Entries) (x : List ℕ) (c : AltersRow P old new x) where
   pub row-changed : (u : List ℕ) → lookup (bytes_eq u) new ≡ cond (bytes_eq x u) (Some c.after) (lookup (bytes_eq u) old)
@@ -249,13 +269,6 @@ module _ (old new : Entries) (x y : List ℕ) (s : Rights) (c : AltersRow (λ a 
     rows = rows-changed old new x c g.rows;
     names = names-changed old new x c g.names;
   }
-
-pub none_from_unknown : (es : Entries) (n : List ℕ) → is_known es n ≡ false → lookup (bytes_eq n) es ≡ None
-none_from_unknown es n e = by (lookup (bytes_eq n) es) (is_some-lookup (bytes_eq n) es ∙ e)
-  where
-    by : (o : Option Edges) → is_some o ≡ false → o ≡ None
-    by None e = refl
-    by (Some row) e = absurd (true≢false e)
 
 -- ---- what each graph has
 module _ (es : Entries) (g : IsGraph es) (u : List ℕ) (right : Right) (v : List ℕ) (h : (graph_of es).holds u right v ≡ true) where

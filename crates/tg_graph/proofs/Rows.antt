@@ -1,5 +1,5 @@
 -- Rows.
-use Rattle.std.proofs.Common.{◌≡◌, ℕ, Bool, true, false, cond, List, [], Option, Some, None, refl, sym, ap, subst, ◌∙◌, bytes_eq, IfSome, ◌&&◌, ◌||◌, not, unwrap_or, is_some, bit_or, bit_and, w8, ◌<◌, arith, Result, Ok, Err, IsOk, OnOk, true≢false}
+use Rattle.std.proofs.Common.{◌≡◌, ℕ, Bool, true, false, cond, List, [], Option, Some, None, refl, sym, ap, subst, ◌∙◌, bytes_eq, IfSome, ◌&&◌, ◌||◌, not, unwrap_or, is_some, bit_or, bit_and, w8, ◌<◌, arith, Result, Ok, Err, IsOk, OnOk, OnErr, true≢false}
 use Rattle.std.specs.Map.{lookup}
 use Rattle.std.specs.List.Sorted.{IsStrictlySortedBy}
 use Rattle.tg_graph.specs.declared.right_sets.Rights.{Rights}
@@ -100,6 +100,10 @@ adds-nothing row y s e = record {
 pub on_ok-is : {T E P : Type 0} (r : Result T E) → IsOk r → OnOk r P → P
 on_ok-is (Ok x) o p = p
 on_ok-is (Err e) o p = absurd (true≢false (sym o))
+
+pub on_err_from : {T E P : Type 0} (r : Result T E) → P → OnErr r P
+on_err_from (Ok x) p = tt
+on_err_from (Err e) p = p
 
 pub target_from_label : (row : Edges) (y : List ℕ) → 0 < (label_in row y).0 → is_target row y ≡ true
 target_from_label row y = by (lookup (bytes_eq y) row)

@@ -63,7 +63,8 @@ pub(crate) fn holds<R: Rows>(rows: &R, x: Name, right: Right, y: Name) -> bool
 #[tactic(auto, unfolding(crate::specs::Rules::refusal_of, crate::specs::Rules::after))]
 fn check_take<R: Rows>(rows: &R, x: Name, y: Name, z: Name, rights: Rights) -> Result<(), Refusal>
     requires { IsNamed rights }
-    ensures { result ≡ verdict (refusal_of (graph_of (R.entries rows.now)) (Rule.Take x y z rights)) }
+    ensures { result ≡ verdict
+        (refusal_of (graph_of (R.entries rows.now)) (Rule.Take x y z rights)) }
 {
     if !knows(rows, x) {
         return Err(Refusal::Unknown(x));
@@ -87,7 +88,8 @@ fn check_take<R: Rows>(rows: &R, x: Name, y: Name, z: Name, rights: Rights) -> R
 #[tactic(auto, unfolding(crate::specs::Rules::refusal_of, crate::specs::Rules::after))]
 fn check_grant<R: Rows>(rows: &R, x: Name, y: Name, z: Name, rights: Rights) -> Result<(), Refusal>
     requires { IsNamed rights }
-    ensures { result ≡ verdict (refusal_of (graph_of (R.entries rows.now)) (Rule.Grant x y z rights)) }
+    ensures { result ≡ verdict
+        (refusal_of (graph_of (R.entries rows.now)) (Rule.Grant x y z rights)) }
 {
     if !knows(rows, x) {
         return Err(Refusal::Unknown(x));
@@ -110,7 +112,8 @@ fn check_grant<R: Rows>(rows: &R, x: Name, y: Name, z: Name, rights: Rights) -> 
 // The first refusal of a create.
 #[tactic(auto, unfolding(crate::specs::Rules::refusal_of, crate::specs::Rules::after))]
 fn check_create<R: Rows>(rows: &R, x: Name, n: Name, rights: Rights) -> Result<(), Refusal>
-    ensures { result ≡ verdict (refusal_of (graph_of (R.entries rows.now)) (Rule.Create x n rights)) }
+    ensures { result ≡ verdict
+        (refusal_of (graph_of (R.entries rows.now)) (Rule.Create x n rights)) }
 {
     if !knows(rows, x) {
         return Err(Refusal::Unknown(x));
@@ -124,7 +127,8 @@ fn check_create<R: Rows>(rows: &R, x: Name, n: Name, rights: Rights) -> Result<(
 // The first refusal of a remove.
 #[tactic(auto, unfolding(crate::specs::Rules::refusal_of, crate::specs::Rules::after))]
 fn check_remove<R: Rows>(rows: &R, x: Name, y: Name, rights: Rights) -> Result<(), Refusal>
-    ensures { result ≡ verdict (refusal_of (graph_of (R.entries rows.now)) (Rule.Remove x y rights)) }
+    ensures { result ≡ verdict
+        (refusal_of (graph_of (R.entries rows.now)) (Rule.Remove x y rights)) }
 {
     if !knows(rows, x) {
         return Err(Refusal::Unknown(x));

@@ -1,7 +1,7 @@
 //! Changed rows and new vertices laid over a graph.
 ghost use Rattle.std.specs.Prelude.{◌≡◌, ◌+◌, ◌<◌, ◌≤◌, [], ◌∷◌, true, false, Some, IfOk, IfErr, OnOk, OnErr, bytes_eq, length};
 ghost use Rattle.std.specs.Map.{keys_of};
-ghost use Rattle.indexmap.specs.IndexMap.{spare, insert_entry, insert_all};
+ghost use Rattle.indexmap.specs.IndexMap.{spare, insert_all};
 ghost use Rattle.indexmap.specs.IndexSet.{insert_key, insert_all as insert_all_keys};
 ghost use Rattle.tg_graph.specs.Sets.{IsNamed};
 ghost use Rattle.tg_graph.specs.Rows.{Entries, is_known, IsGraph, Adds, TakesAway};
@@ -24,8 +24,8 @@ use std::marker::Model;
 
 /// Changed rows and new vertices, laid over a graph.
 ///
-/// A contract sees a draft as its rows and the created vertices; what it stands for over a graph is `laid_over`.
-/// The calls that are given a graph require that the draft fits it.
+/// A contract sees a draft as its rows and the created vertices; what it stands for over a graph is
+/// `laid_over`. The calls that are given a graph require that the draft fits it.
 #[derive(Drop)]
 pub struct Draft {
     rows: IndexMap<Name, SharedRow>,
@@ -122,9 +122,11 @@ impl Draft {
         ensures value { result ≡ ([], []) }
         ensures fits { (base : Entries) → Fits base result }
     {
+        let rows = IndexMap::new(alloc);
+        let created = Vec::new(alloc);
         Draft {
-            rows: IndexMap::new(alloc),
-            created: Vec::new(alloc),
+            rows,
+            created,
             alloc,
         }
     }
@@ -161,7 +163,8 @@ impl Draft {
         requires target { has_vertex (graph_of (laid_over base.now self.old)) y ≡ true }
         ensures given { OnOk result
             (graph_of (laid_over base.now self.new) ≡ with_rights (graph_of (laid_over base.now self.old)) x y rights) }
-        ensures rows { OnOk result (keys_of self.new.0 ≡ insert_key bytes_eq (keys_of self.old.0) x) }
+        ensures rows { OnOk result
+            (keys_of self.new.0 ≡ insert_key bytes_eq (keys_of self.old.0) x) }
         ensures fits { Fits base.now self.new }
         ensures err { OnErr result (self.new ≡ self.old) }
     {
@@ -178,7 +181,8 @@ impl Draft {
         requires source { has_vertex (graph_of (laid_over base.now self.old)) x ≡ true }
         ensures taken { OnOk result
             (graph_of (laid_over base.now self.new) ≡ without_rights (graph_of (laid_over base.now self.old)) x y rights) }
-        ensures rows { OnOk result (keys_of self.new.0 ≡ insert_key bytes_eq (keys_of self.old.0) x) }
+        ensures rows { OnOk result
+            (keys_of self.new.0 ≡ insert_key bytes_eq (keys_of self.old.0) x) }
         ensures fits { Fits base.now self.new }
         ensures err { OnErr result (self.new ≡ self.old) }
     {
@@ -196,7 +200,8 @@ impl Draft {
         requires fresh { has_vertex (graph_of (laid_over base.now self.old)) n ≡ false }
         ensures created { OnOk result
             (graph_of (laid_over base.now self.new) ≡ with_rights (with_vertex (graph_of (laid_over base.now self.old)) n) x n rights) }
-        ensures rows { OnOk result (keys_of self.new.0 ≡ insert_all_keys bytes_eq (keys_of self.old.0) (x ∷ n ∷ [])) }
+        ensures rows { OnOk result
+            (keys_of self.new.0 ≡ insert_all_keys bytes_eq (keys_of self.old.0) (x ∷ n ∷ [])) }
         ensures fits { Fits base.now self.new }
         ensures err { OnErr result (self.new ≡ self.old) }
     {
@@ -212,7 +217,8 @@ impl Draft {
         Ok(())
     }
 
-    /// Whether what the draft stands for accepts a rule. The error is the first reason to refuse it.
+    /// Whether what the draft stands for accepts a rule. The error is the first reason to refuse
+    /// it.
     pub fn check(&self, base: &Graph, rule: &Rule) -> Result<(), Refusal>
         requires named { IsNamed (rights_of rule.now) }
         requires fits { Fits base.now self.now }
@@ -221,18 +227,23 @@ impl Draft {
         checks::check(&Laid { base, draft: self }, rule)
     }
 
-    /// Carries out a rule on what the draft stands for. A refused rule, and want of memory, change nothing.
+    /// Carries out a rule on what the draft stands for. A refused rule, and want of memory, change
+    /// nothing.
     #[tactic(auto, unfolding(crate::specs::Rules::refusal_of, crate::specs::Rules::after))]
     pub fn apply(&mut self, base: &Graph, rule: &Rule) -> Result<(), RuleFault>
         requires named { IsNamed (rights_of rule.now) }
         requires fits { Fits base.now self.old }
-        ensures applied { Applies (graph_of (laid_over base.now self.old)) rule.now result (graph_of (laid_over base.now self.new)) }
-        // The names of its rows are those from before, and then the written ones that were not among them.
-        ensures rows { OnOk result (keys_of self.new.0 ≡ insert_all_keys bytes_eq (keys_of self.old.0) (written_by rule.now)) }
+        ensures applied { Applies (graph_of (laid_over base.now self.old)) rule.now result
+            (graph_of (laid_over base.now self.new)) }
+        // The names of its rows are those from before, and then the written ones that were not
+        // among them.
+        ensures rows { OnOk result
+            (keys_of self.new.0 ≡ insert_all_keys bytes_eq (keys_of self.old.0)
+            (written_by rule.now)) }
         ensures fits { Fits base.now self.new }
         ensures kept { OnErr result (self.new ≡ self.old) }
     {
-        checks::check(&Laid { base, draft: self }, rule)?;
+        self.check(base, rule)?;
         match *rule {
             Rule::Take { x, z, rights, .. } => self.give(base, x, z, rights)?,
             Rule::Grant { y, z, rights, .. } => self.give(base, y, z, rights)?,
@@ -242,7 +253,8 @@ impl Draft {
         Ok(())
     }
 
-    /// What the draft stands for, as a graph of its own. It shares each row with the base or the draft.
+    /// What the draft stands for, as a graph of its own. It shares each row with the base or the
+    /// draft, until the row is changed in one of them.
     pub fn whole(&self, base: &Graph) -> Result<Graph, AllocError>
         requires { Fits base.now self.now }
         ensures { IfOk result (λ whole. whole ≡ laid_over base.now self.now) }
@@ -258,7 +270,8 @@ impl Draft {
     }
 }
 
-/// A draft and the graph that it is laid over, in which there is room for all that the draft puts in.
+/// A draft and the graph that it is laid over, in which there is room for the vertices that the
+/// draft creates.
 ///
 /// A contract sees the graph, and then the draft.
 #[derive(Drop)]
@@ -297,7 +310,8 @@ impl Ready {
         }
     }
 
-    /// The graph that the draft stands for. It takes no memory, and its cost is that of the draft's rows.
+    /// The graph that the draft stands for. It takes no memory, and its cost is that of the draft's
+    /// rows.
     pub fn merge(self) -> Graph
         ensures { result ≡ laid_over self.0 self.1 }
     {
@@ -306,8 +320,8 @@ impl Ready {
             alloc,
             draft,
         } = self;
-        let Draft { rows: changes, .. } = draft;
-        row_maps::put_all(&mut rows, changes);
+        let Draft { rows: changed, .. } = draft;
+        row_maps::put_all(&mut rows, changed);
         Graph { rows, alloc }
     }
 
@@ -329,8 +343,9 @@ impl Graph {
         Draft::new(self.alloc)
     }
 
-    /// Takes the draft's changes in, at the cost of the draft's rows. Where memory is refused, nothing is changed,
-    /// and the draft is given back.
+    /// Takes the draft's changes in, at the cost of the draft's rows and, where its created
+    /// vertices make the table grow, of the table. Where memory is refused, nothing is changed, and
+    /// the draft is given back.
     pub fn merge(&mut self, draft: Draft) -> Result<(), Draft>
         requires { Fits self.old draft }
         ensures merged { OnOk result (self.new ≡ laid_over self.old draft) }
@@ -339,8 +354,8 @@ impl Graph {
     {
         match self.rows.reserve(draft.created()) {
             Ok(()) => {
-                let Draft { rows: changes, .. } = draft;
-                row_maps::put_all(&mut self.rows, changes);
+                let Draft { rows, .. } = draft;
+                row_maps::put_all(&mut self.rows, rows);
                 Ok(())
             }
             Err(AllocError) => Err(draft),
@@ -348,14 +363,14 @@ impl Graph {
     }
 }
 
-/// A draft fits a graph exactly where no created name is a vertex there, and each source and each target of its
-/// rows is a vertex there or created.
+/// A draft fits a graph exactly where no created name is a vertex there, and each source and each
+/// target of its rows is a vertex there or created.
 pub fn drafts_fit_by_names()
     ensures { FittingIsByNames }
 {}
 
-/// Of drafts over one graph that have no row in common each fits what the other makes of the graph, and what both
-/// make of it is the same whichever is laid first.
+/// Of drafts over one graph that have no row in common each fits what the other makes of the graph,
+/// and what both make of it is the same whichever is laid first.
 pub fn drafts_apart_commute()
     ensures fit { ApartFit }
     ensures same { ApartCommute }

@@ -1,6 +1,7 @@
 //! The limits that texts, sessions and derivations keep. The graph type itself has none.
 //!
-//! The definitions have the same numbers in `specs/Limits.antt`; what the code compares with is here alone.
+//! The definitions have the same numbers in `specs/Limits.antt`; what the code compares with is
+//! here alone.
 
 /// How many vertices there may be in the graph of a text, a session or a derivation.
 pub const MOST_VERTICES: usize = 1024;

@@ -23,7 +23,8 @@ pub enum NameFault {
 
 /// The name of a vertex: 1 to 16 bytes of `a` to `z`, `0` to `9` and `_`, the first not a digit.
 ///
-/// Names are ordered by their bytes, a prefix first. A contract sees a name as the list of its bytes.
+/// Names are ordered by their bytes, a prefix first. A contract sees a name as the list of its
+/// bytes.
 #[derive(Clone, Copy, Debug)]
 pub struct Name {
     padded: [u8; 16],
@@ -79,7 +80,8 @@ fn padded(bytes: &[u8]) -> [u8; 16]
     padded
 }
 
-// Writes the number in decimal so that it ends with the text, and gives the place of its first digit.
+// Writes the number in decimal so that it ends with the text, and gives the place of its first
+// digit.
 fn write_decimal(text: &mut [u8], number: u32) -> usize
     requires { length text.old ≡ 11 }
     ensures start { result + length (decimal number) ≡ 11 }

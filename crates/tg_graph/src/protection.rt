@@ -1,15 +1,14 @@
 //! Protection graphs.
-ghost use Rattle.std.specs.Prelude.{◌≡◌, ◌<◌, ◌++◌, ◌∷◌, [], Some, None, true, false, IfOk, OnOk, OnErr, bytes_eq, length, slice_get, position};
+ghost use Rattle.std.specs.Prelude.{◌≡◌, ◌<◌, [], Some, None, true, false, IfOk, OnOk, OnErr, bytes_eq, length, slice_get, position, MatchBool, if◌then◌else◌};
 ghost use Rattle.std.specs.Map.{keys_of, lookup};
-ghost use Rattle.indexmap.specs.IndexMap.{spare, insert_all};
+ghost use Rattle.indexmap.specs.IndexMap.{spare};
 ghost use Rattle.tg_graph.specs.Sets.{IsNamed};
-ghost use Rattle.tg_graph.specs.Rows.{label_of, is_known, has_edge, IsLabel, IsGraph, row_number, Adds, TakesAway, ChangesRow};
+ghost use Rattle.tg_graph.specs.Rows.{is_known, IsLabel, IsGraph, row_number, Adds, ChangesRow};
 ghost use Rattle.tg_graph.specs.Graphs.{has_vertex, WellFormed};
 ghost use Rattle.tg_graph.specs.GraphOf.{graph_of};
-ghost use Rattle.tg_graph.specs.Rules.{refusal_of, verdict, not_held, Applies, rights_of, with_rights, without_rights, with_vertex, after};
+ghost use Rattle.tg_graph.specs.Rules.{refusal_of, verdict, Applies, rights_of, with_rights, without_rights, with_vertex, after};
 ghost use Rattle.tg_graph.specs.Sets.{is_empty_set};
 ghost use Rattle.tg_graph.specs.Additions.{AddsVertex, AddsEdge, label_at, label_between, Runs, AreNamed};
-ghost use Rattle.std.specs.Prelude.{not, MatchBool, if◌then◌else◌};
 
 use crate::checks::{self, Rows};
 use crate::names::Name;
@@ -23,11 +22,12 @@ use indexmap::IndexMap;
 use std::alloc::{AllocError, Global};
 use std::marker::Model;
 
-/// A protection graph: vertices, and for each two of them the rights that the first has over the second.
+/// A protection graph: vertices, and for each two of them the rights that the first has over the
+/// second.
 ///
-/// A position counts the vertices from 0, in order of insertion.
-/// A contract sees a graph as the list of its vertices with their rows; what the list stands for is `graph_of`.
-/// A call that is refused changes nothing.
+/// A position counts the vertices from 0, in order of insertion. A contract sees a graph as the
+/// list of its vertices with their rows; what the list stands for is `graph_of`. A call that is
+/// refused changes nothing.
 #[derive(Drop)]
 pub struct Graph {
     pub(crate) rows: IndexMap<Name, SharedRow>,
@@ -64,28 +64,6 @@ fn widen(
     match rows.get_mut(&x) {
         Some(row) => row.add(y, rights),
         None => Ok(()),
-    }
-}
-
-// Adds an edge if there is none, and says whether there was none.
-fn link(
-    rows: &mut IndexMap<Name, SharedRow>,
-    x: Name,
-    y: Name,
-    rights: Rights,
-) -> Result<bool, AllocError>
-    requires label { IsLabel rights }
-    requires known { is_known rows.old.entries x ≡ true }
-    ensures said { IfOk result (λ added. added ≡ not (has_edge rows.old.entries x y)) }
-    ensures linked { IfOk result (λ added. MatchBool added
-        (ChangesRow (λ a b. Adds a b y rights) rows.old.entries rows.new.entries x)
-        (rows.new.entries ≡ rows.old.entries)) }
-    ensures absent { OnErr result (has_edge rows.old.entries x y ≡ false) }
-    ensures err { OnErr result (rows.new.entries ≡ rows.old.entries) }
-{
-    match rows.get_mut(&x) {
-        Some(row) => row.add_new(y, rights),
-        None => Ok(false),
     }
 }
 
@@ -226,12 +204,20 @@ impl Graph {
         requires label { IsLabel rights }
         requires source { has_vertex (graph_of self.old) x ≡ true }
         requires target { has_vertex (graph_of self.old) y ≡ true }
-        ensures said { IfOk result (λ added. added ≡ is_empty_set (label_between (graph_of self.old) x y)) }
-        ensures joined { IfOk result (λ added. MatchBool added (graph_of self.new ≡ with_rights (graph_of self.old) x y rights) (self.new ≡ self.old)) }
-        ensures absent { OnErr result (is_empty_set (label_between (graph_of self.old) x y) ≡ true) }
+        ensures said { IfOk result
+            (λ added. added ≡ is_empty_set (label_between (graph_of self.old) x y)) }
+        ensures joined { IfOk result
+            (λ added. MatchBool added
+            (graph_of self.new ≡ with_rights (graph_of self.old) x y rights)
+            (self.new ≡ self.old)) }
+        ensures absent { OnErr result
+            (is_empty_set (label_between (graph_of self.old) x y) ≡ true) }
         ensures err { OnErr result (self.new ≡ self.old) }
     {
-        let added = link(&mut self.rows, x, y, rights)?;
+        let Some(row) = self.rows.get_mut(&x) else {
+            return Ok(false);
+        };
+        let added = row.add_new(y, rights)?;
         Ok(added)
     }
 
@@ -288,7 +274,10 @@ impl Graph {
             (graph_of self.new ≡ without_rights (graph_of self.old) x y rights) }
         ensures err { OnErr result (self.new ≡ self.old) }
     {
-        narrow(&mut self.rows, x, y, rights)?;
+        let Some(row) = self.rows.get_mut(&x) else {
+            return Ok(());
+        };
+        row.take(y, rights)?;
         Ok(())
     }
 
@@ -353,8 +342,8 @@ impl Graph {
         }
     }
 
-    /// The target and label of an edge out of the vertex at a position, by its place in the name order of
-    /// the targets.
+    /// The target and label of an edge out of the vertex at a position, by its place in the name
+    /// order of the targets.
     pub fn row_at(&self, position: usize, place: usize) -> Option<(Name, Rights)>
         ensures { result ≡ slice_get (row_number self.now position) place }
     {
@@ -364,8 +353,9 @@ impl Graph {
         }
     }
 
-    /// A graph with the same vertices at the same positions, and the same edges. It shares each row with this one
-    /// until the row is changed in one of them, so it costs time and memory in the number of vertices.
+    /// A graph with the same vertices at the same positions, and the same edges. It shares each row
+    /// with this one until the row is changed in one of them, so it costs time and memory in the
+    /// number of vertices.
     pub fn copy(&self) -> Result<Graph, AllocError>
         ensures { IfOk result (λ copy. copy ≡ self.now) }
     {
@@ -375,7 +365,8 @@ impl Graph {
         })
     }
 
-    /// A copy that shares nothing with this graph, for another thread: neither of them then touches a word of the other.
+    /// A copy that shares nothing with this graph, for another thread: neither of them then touches
+    /// a word of the other.
     pub fn copy_unshared(&self) -> Result<Graph, AllocError>
         ensures { IfOk result (λ copy. copy ≡ self.now) }
     {
@@ -396,8 +387,8 @@ impl Graph {
         }
     }
 
-    /// Carries out rules in turn, up to the first that fails. The error is its index and its fault; the
-    /// rules before it stand.
+    /// Carries out rules in turn, up to the first that fails. The error is its index and its fault;
+    /// the rules before it stand.
     pub fn run(&mut self, rules: &[Rule]) -> Result<(), (usize, RuleFault)>
         requires { AreNamed rules.now }
         ensures { Runs (graph_of self.old) rules.now result (graph_of self.new) }
@@ -409,24 +400,5 @@ impl Graph {
             }
         }
         Ok(())
-    }
-}
-
-// Takes rights out of the label of an edge.
-fn narrow(
-    rows: &mut IndexMap<Name, SharedRow>,
-    x: Name,
-    y: Name,
-    rights: Rights,
-) -> Result<(), AllocError>
-    requires named { IsNamed rights }
-    requires known { is_known rows.old.entries x ≡ true }
-    ensures narrowed { OnOk result
-        (ChangesRow (λ a b. TakesAway a b y rights) rows.old.entries rows.new.entries x) }
-    ensures err { OnErr result (rows.new.entries ≡ rows.old.entries) }
-{
-    match rows.get_mut(&x) {
-        Some(row) => row.take(y, rights),
-        None => Ok(()),
     }
 }

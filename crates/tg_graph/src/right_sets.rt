@@ -111,7 +111,8 @@ impl Rights {
     pub fn union(self, other: Rights) -> Rights
         requires named { IsNamed self }
         requires other_named { IsNamed other }
-        ensures members { (right : Right) → member result right ≡ (member self right || member other right) }
+        ensures members { (right : Right)
+            → member result right ≡ (member self right || member other right) }
         ensures bits { result.0 ≡ bit_or self.0 other.0 }
         ensures named { IsNamed result }
     {
@@ -122,7 +123,8 @@ impl Rights {
     pub fn difference(self, other: Rights) -> Rights
         requires named { IsNamed self }
         requires other_named { IsNamed other }
-        ensures set { result ≡ rights_where (λ right. member self right && not (member other right)) }
+        ensures set { result ≡ rights_where
+            (λ right. member self right && not (member other right)) }
         ensures named { IsNamed result }
     {
         Flags::difference(self, other)
@@ -132,7 +134,8 @@ impl Rights {
     pub fn contains(self, other: Rights) -> bool
         requires named { IsNamed self }
         requires other_named { IsNamed other }
-        ensures { IsTrue result ↔ ((right : Right) → member other right ≡ true → member self right ≡ true) }
+        ensures { IsTrue result
+            ↔ ((right : Right) → member other right ≡ true → member self right ≡ true) }
     {
         Flags::contains(&self, other)
     }
@@ -178,7 +181,8 @@ impl Rights {
         None
     }
 
-    /// The set that the bytes write: one letter or more, in any order and none twice, or `-` for the empty set.
+    /// The set that the bytes write: one letter or more, in any order and none twice, or `-` for
+    /// the empty set.
     pub fn from_letters(letters: &[u8]) -> Option<Rights>
         ensures value { result ≡ set_of_letters letters.now }
         ensures named { IfSome result IsNamed }

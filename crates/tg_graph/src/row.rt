@@ -1,5 +1,5 @@
 //! The edges out of one vertex.
-ghost use Rattle.std.specs.Prelude.{◌≡◌, true, false, Some, None, ◌<◌, [], IfOk, IfErr, OnOk, OnErr, bytes_eq, length, slice_get};
+ghost use Rattle.std.specs.Prelude.{◌≡◌, Some, None, ◌<◌, [], IfOk, IfErr, OnOk, OnErr, bytes_eq, length, slice_get};
 ghost use Rattle.std.specs.Map.{lookup};
 ghost use Rattle.tg_graph.specs.Sets.{IsNamed};
 ghost use Rattle.tg_graph.specs.Rows.{label_in, IsLabel, IsRow, Puts, Adds, TakesAway, IsPlaceOf, IsGapFor};

@@ -8,11 +8,13 @@ use crate::shared_row::SharedRow;
 use indexmap::IndexMap;
 use std::alloc::{AllocError, Global};
 
-/// Puts a row in: in the place of the one that its vertex has, or as the last. A new vertex needs room.
+/// Puts a row in: in the place of the one that its vertex has, or as the last. A new vertex needs
+/// room.
 pub fn put(rows: &mut IndexMap<Name, SharedRow>, n: Name, row: SharedRow)
     requires room { is_known rows.old.entries n ≡ false → 0 < spare rows.old }
     ensures put { rows.new.entries ≡ insert_entry bytes_eq rows.old.entries n row }
-    ensures room { length rows.old.entries + spare rows.old ≤ length rows.new.entries + spare rows.new }
+    ensures room { length rows.old.entries + spare rows.old ≤ length rows.new.entries + spare
+        rows.new }
 {
     match rows.get_mut(&n) {
         Some(place) => *place = row,
@@ -25,7 +27,9 @@ pub fn put(rows: &mut IndexMap<Name, SharedRow>, n: Name, row: SharedRow)
 
 /// Puts each of the changes in, where there is room for the new vertices among them.
 pub fn put_all(rows: &mut IndexMap<Name, SharedRow>, changes: IndexMap<Name, SharedRow>)
-    requires room { length (insert_all bytes_eq rows.old.entries changes.entries) ≤ length rows.old.entries + spare rows.old }
+    requires room { length
+        (insert_all bytes_eq rows.old.entries changes.entries) ≤ length rows.old.entries + spare
+        rows.old }
     ensures { rows.new.entries ≡ insert_all bytes_eq rows.old.entries changes.entries }
 {
     for (n, row) in changes {

@@ -41,8 +41,8 @@ pub enum Rule {
 /// Why a rule is refused. Where several reasons are there, the first of this list is meant.
 #[derive(Clone, Copy, PartialEq, Eq, Debug)]
 pub enum Refusal {
-    /// A vertex of the rule is not in the graph: the first one in the order written. The new vertex of a
-    /// create is not meant.
+    /// A vertex of the rule is not in the graph: the first one in the order written. The new vertex
+    /// of a create is not meant.
     Unknown(Name),
     /// The vertex to create is in the graph.
     Taken(Name),

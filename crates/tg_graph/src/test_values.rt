@@ -1,4 +1,5 @@
-//! Names, sets, rules and graphs for the tests of several modules. A word that is none fails its test.
+//! Names, sets, rules and graphs for the tests of several modules. A word that is none fails its
+//! test.
 ghost use Rattle.tg_graph.specs.Sets.{IsNamed};
 ghost use Rattle.tg_graph.specs.Rules.{rights_of};
 

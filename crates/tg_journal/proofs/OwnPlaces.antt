@@ -1,8 +1,11 @@
 -- The places at which records of one number stand.
 use Rattle.std.proofs.lemmas.Option.{same_Some}
-use Rattle.std.proofs.Common.{Bool, true, false, cond, eqb, add-zero, zero-add, ◌≡◌, ◌↔◌, ℕ, ◌+◌, ◌<◌, ◌≤◌, List, [], ◌∷◌, ◌++◌, length, get_or, refl, ◌∙◌, ap, subst, zero, suc, arith}
-use Rattle.std.proofs.lemmas.Bool.{eq-eqb, ne_eqb, eqb-true}
-use Rattle.std.specs.List.{slice_get, Contains}
+use Rattle.std.proofs.Common.{Bool, true, false, cond, eqb, add-zero, zero-add, ◌≡◌, ◌↔◌, ℕ, ◌+◌, ◌<◌, ◌≤◌, List, [], ◌∷◌, ◌++◌, length, get_or, refl, ◌∙◌, ap, subst, zero, suc, arith, sym}
+use Rattle.std.proofs.Math.Seq.{take-nil}
+use Rattle.std.proofs.lemmas.List.Sums.{sum_by-cons}
+use Rattle.std.proofs.lemmas.Bool.{eq-eqb, ne_eqb, eqb-true, lt-ltb, le-ltb}
+use Rattle.std.specs.List.{slice_get, Contains, count_by}
+use Rattle.std.specs.Prelude.{nat_lt, take}
 use Rattle.std.specs.List.Sorted.{IsStrictlyIncreasing}
 use Rattle.std.specs.declared.option.Option.TheVariants.{Some}
 use Rattle.tg_journal.specs.Pass.{own_places}
@@ -43,6 +46,20 @@ led_rising true i ps low up (suc j) h =
     subst P same (up j (omega arith))
 led_rising false i ps low up j h = up j h
 
+count_by-cons : {X : Type 0} (p : X → Bool) (x : X) (xs : List X) → count_by p (x ∷ xs) ≡ cond (p x) 1 0 + count_by p xs
+count_by-cons p x xs = sum_by-cons (λ y. cond (p y) 1 0) x xs
+
+-- a number that leads a list counts where it is below n
+led_counted : (b : Bool) (i n : ℕ) (ps : List ℕ) → i < n → count_by (λ p. nat_lt p n) (Led b i ps) ≡ cond b 1 0 + count_by (λ p. nat_lt p n) ps
+led_counted true i n ps h =
+    count_by-cons (λ p. nat_lt p n) i ps ∙ ap (λ b. cond b 1 0 + count_by (λ p. nat_lt p n) ps) (lt-ltb i n h)
+led_counted false i n ps h = sym (zero-add (count_by (λ p. nat_lt p n) ps))
+
+none_below : (n : ℕ) (ps : List ℕ) → ((j : ℕ) → j < length ps → n ≤ get_or ps j 0) → count_by (λ p. nat_lt p n) ps ≡ 0
+none_below n [] h = refl
+none_below n (p ∷ ps) h =
+    count_by-cons (λ p. nat_lt p n) p ps ∙ ap (λ b. cond b 1 0 + count_by (λ p. nat_lt p n) ps) (le-ltb p n (h 0 (omega arith))) ∙ zero-add (count_by (λ p. nat_lt p n) ps) ∙ none_below n ps (λ j l. h (suc j) (omega arith))
+
 module _ {R : Type 0} (seat : R → ℕ) (k : ℕ) where
   -- a record of the number stands at the place
   abbrev pub HasOwn : List R → ℕ → Type 0
@@ -55,6 +72,18 @@ module _ {R : Type 0} (seat : R → ℕ) (k : ℕ) where
   pub own_places_rising : (i : ℕ) (xs : List R) → IsStrictlyIncreasing (own_places seat k i xs)
   own_places_rising i [] j h = absurd (omega arith)
   own_places_rising i (y ∷ ys) j h = led_rising (eqb (seat y) k) i (own_places seat k (i + 1) ys) (own_places_low (i + 1) ys) (own_places_rising (i + 1) ys) j h
+
+  counted_from : (i n : ℕ) (xs : List R) → count_by (λ r. eqb (seat r) k) (take n xs) ≡ count_by (λ p. nat_lt p (i + n)) (own_places seat k i xs)
+  counted_from i n [] = ap (count_by (λ r. eqb (seat r) k)) (take-nil n)
+  counted_from i zero (y ∷ ys) = sym (none_below (i + 0) (own_places seat k i (y ∷ ys)) (λ j l. omega (arith, own_places_low i (y ∷ ys) j l)))
+  counted_from i (suc n) (y ∷ ys) =
+      let next : i + 1 + n ≡ i + suc n = omega arith in
+      let rest = counted_from (i + 1) n ys ∙ ap (λ m. count_by (λ p. nat_lt p m) (own_places seat k (i + 1) ys)) next in
+      count_by-cons (λ r. eqb (seat r) k) y (take n ys) ∙ ap (λ m. cond (eqb (seat y) k) 1 0 + m) rest ∙ sym (led_counted (eqb (seat y) k) i (i + suc n) (own_places seat k (i + 1) ys) (omega arith))
+
+  -- among the first n, as many are of the number as there are places below n
+  pub own_places_counted : (n : ℕ) (xs : List R) → count_by (λ r. eqb (seat r) k) (take n xs) ≡ count_by (λ p. nat_lt p n) (own_places seat k 0 xs)
+  own_places_counted n xs = counted_from 0 n xs ∙ ap (λ m. count_by (λ p. nat_lt p m) (own_places seat k 0 xs)) (zero-add n)
 
   led_found : (i : ℕ) (y : R) (ys : List R) (ps : List ℕ) (b : Bool) → eqb (seat y) k ≡ b
       → ((j m : ℕ) → j < length ps → get_or ps j m ≡ m → (p : ℕ) × (m ≡ i + 1 + p) × HasOwn ys p)

@@ -1,17 +1,19 @@
 -- Lists of notes, of which one is replaced.
 use Rattle.std.proofs.Common.{zero-add, ◌≡◌, ◌↔◌, ℕ, ◌+◌, ◌<◌, ◌≤◌, List, [], ◌∷◌, ◌++◌, length, map, take, set, get_or, refl, sym, ◌∙◌, ap, subst, zero, suc, arith, add-one}
 use Rattle.std.proofs.lemmas.Option.{slice_get_within, get_or_from_slice_get, slice_get-get_or, slice_get-map, none-some}
-use Rattle.std.specs.List.{slice_get}
+use Rattle.std.specs.List.{slice_get, count_by}
+use Rattle.std.specs.Prelude.{◌==◌, nat_lt}
 use Rattle.std.specs.Option.{MatchOption, IfSome, IsSome, option_map}
 use Rattle.std.proofs.lemmas.List.{get_or-take, take_more, map-set, take-set, take_more_set, length-map, length-set, length-take-le, map-append, length-append, length-take, take-take, get_or_push, get_or-set_same}
 use Rattle.std.specs.declared.option.Option.{Option}
 use Rattle.std.specs.declared.option.Option.TheVariants.{None, Some}
 use Rattle.std.specs.List.{Contains}
 use Rattle.std.specs.List.Sorted.{IsStrictlyIncreasing}
+use Rattle.tg_journal.specs.Limits.{most_cells}
 use Rattle.tg_journal.specs.Lists.{Begins}
 use Rattle.tg_journal.specs.Known.{values, AllKnown}
-use Rattle.tg_journal.specs.Pass.{own_places, IsPass, pass_of}
-use Rattle.tg_journal.proofs.OwnPlaces.{HasOwn, own_places_same, own_places_more, own_places_le, own_places_rising, own_places_own}
+use Rattle.tg_journal.specs.Pass.{own_places, IsPass, pass_of, PassState, Remembers}
+use Rattle.tg_journal.proofs.OwnPlaces.{HasOwn, own_places_same, own_places_more, own_places_le, own_places_rising, own_places_own, own_places_counted}
 
 module _ {X Y : Type 0} (f : X → Y) where
   pub map_same : (xs : List X) (i : ℕ) (x y : X) → x ≡ get_or xs i x → f y ≡ f x → map f (set xs i y) ≡ map f xs
@@ -34,10 +36,6 @@ name_there f xs names i j n x e k h a =
     let within : i < length names = slice_get_within names i n there in
     let size : length xs ≡ length names = sym (length-map xs f) ∙ ap length e in
     sym (get_or_from_slice_get names i n n there) ∙ ap (λ l. get_or l i n) (sym e) ∙ map_read f xs i x n (omega arith) a
-
-pub if_same : {R : Type 0} (k : Option R) (r : R) (P : R → Type 0) → IfSome k (λ y. y ≡ r) → P r → IfSome k P
-if_same None r P e p = tt
-if_same (Some y) r P e p = subst P (sym e) p
 
 pub take_more_get : {X : Type 0} (xs : List X) (i : ℕ) (x : X) → slice_get xs i ≡ Some x → take (i + 1) xs ≡ take i xs ++ x ∷ []
 take_more_get xs i x h =
@@ -146,8 +144,11 @@ module _ {R : Type 0} where
     knows_none ns i x r e l n k =
         none-some r (sym n ∙ sym (map_read known ns i x None l e) ∙ get_or_from_slice_get (map known ns) i (Some r) None k)
 
-    pub known_at : (ns : List X) (c j : ℕ) (y : X) (r : R) → c < length ns → c ≡ j → known y ≡ Some r → slice_get (map known (set ns c y)) j ≡ Some (Some r)
-    known_at ns c j y r l h e = ap (slice_get (map known (set ns c y))) (sym h) ∙ known_there ns c y r l e
+    -- what is known of a cell whose note was replaced
+    pub known_now : (ns : List X) (c j : ℕ) (y : X) (k : Option R) → c < length ns → c ≡ j → known y ≡ k → slice_get (map known (set ns c y)) j ≡ Some k
+    known_now ns c j y k l h e =
+        let size : length (map known (set ns c y)) ≡ length ns = length-map (set ns c y) known ∙ length-set ns c y in
+        ap (slice_get (map known (set ns c y))) (sym h) ∙ slice_get-get_or (map known (set ns c y)) c None (omega arith) ∙ ap Some (map_read known (set ns c y) c y None (rw (length-set ns c y) l) (sym (get_or-set_same ns c y y l)) ∙ e)
 
     -- what the note of a seen place knows
     pub seen_read : (ns : List X) (c i : ℕ) (x : X) → i < c → Holds ns c → x ≡ get_or ns i x → known x ≡ slice_get (values (take c (map known ns))) i
@@ -184,12 +185,6 @@ module _ {R : Type 0} where
   pub Begins_trans : (xs ys zs : List R) → Begins xs ys → Begins ys zs → Begins xs zs
   Begins_trans xs ys zs d e = Begins_take ys zs (length xs) (Begins_le xs ys d) e ∙ d
 
-  -- what a push adds
-  pub pushed_there : (a c : List R) (i : ℕ) (k : Option R) (Q : R → Type 0) → length a ≡ i → IfSome k (λ x. (c ≡ a ++ x ∷ []) × Q x) → IfSome k (λ x. slice_get c i ≡ Some x)
-  pushed_there a c i None Q n h = tt
-  pushed_there a c i (Some x) Q n h =
-      ap (λ s. slice_get s i) h.0 ∙ slice_get-get_or (a ++ x ∷ []) i x (omega (arith, length-append a (x ∷ []))) ∙ ap Some (get_or_push a x x i n)
-
   pub some_there : (b : List R) (i : ℕ) (k : Option R) → i < length b → k ≡ slice_get b i → IsSome k
   some_there b i None l h = absurd (not_past b i l (sym h))
   some_there b i (Some x) l h = refl
@@ -204,7 +199,7 @@ from_take (y ∷ ys) (suc n) (suc i) x h = from_take ys n i x h
 module _ {R X : Type 0} (seat : R → ℕ) (known : X → Option R) where
   -- the whole invariant of a pass of number k that has seen c cells, put at the places ms, and has room for cap places
   abbrev pub Keeps : List X → ℕ → ℕ → List ℕ → ℕ → Type 0
-  Keeps ns c k ms cap = Holds known ns c × ((ms ≡ own_places seat k 0 (values (take c (map known ns)))) × (length ns ≤ cap) × (length ns ≤ 4096))
+  Keeps ns c k ms cap = Holds known ns c × ((ms ≡ own_places seat k 0 (values (take c (map known ns)))) × (length ns ≤ cap) × (length ns ≤ most_cells))
 
   pub keeps_same : (ns : List X) (c k : ℕ) (ms : List ℕ) (cap : ℕ) (y : X) → Keeps ns c k ms cap → Keeps (set ns c y) c k ms cap
   keeps_same ns c k ms cap y h =
@@ -239,6 +234,7 @@ module _ {R X : Type 0} (seat : R → ℕ) (known : X → Option R) where
         fewer = omega (arith, ap length h.1.0, own_places_le seat k 0 seen);
         rising = subst IsStrictlyIncreasing (sym h.1.0) (own_places_rising seat k 0 seen);
         own = λ place. subst (λ l. Contains l place ↔ HasOwn seat k seen place) (sym h.1.0) (own_places_own seat k seen place);
+        counted = λ n. subst (λ l. count_by (λ r. seat r == k) (take n seen) ≡ count_by (λ place. nat_lt place n) l) (sym h.1.0) (own_places_counted seat k n seen);
       }
 
   -- there is room for one more place
@@ -274,3 +270,26 @@ module _ {R X : Type 0} (known : X → Option R) where
   pub agreed : (k j : Option R) (v : R) → j ≡ Some v → IfSome k (λ y. y ≡ v) → (r : R) → k ≡ Some r → j ≡ Some r
   agreed None j v e a r h = cc
   agreed (Some y) j v e a r h = e ∙ ap Some (sym a) ∙ h
+
+module _ {R : Type 0} where
+  -- what is known by two notes of a cell is the same
+  pub agreed_some : (k j : Option R) → IsSome j → IfSome j (λ v. IfSome k (λ y. y ≡ v)) → (r : R) → k ≡ Some r → j ≡ Some r
+  agreed_some k None h a r e = cc
+  agreed_some None (Some v) h a r e = cc
+  agreed_some (Some y) (Some v) h a r e = ap Some (sym a) ∙ e
+
+  pub some_is : (k : Option R) → IsSome k → (r : R) × (k ≡ Some r)
+  some_is None h = cc
+  some_is (Some r) h = (r, refl)
+
+  -- what a pass knew of a cell it still knows
+  pub known_stays : (old new : PassState R) (i : ℕ) (k : Option R) → IsSome k → Remembers old new → slice_get old.known i ≡ Some k → slice_get new.known i ≡ Some k
+  known_stays old new i None h r e = cc
+  known_stays old new i (Some x) h r e = r i x e
+
+  -- the record that was seen is the one that was known
+  pub looked_at : (a b : List R) (ks : List (Option R)) (i : ℕ) (k : Option R) → length a ≡ i → slice_get ks i ≡ Some k → (r : R) → slice_get ks (length a) ≡ Some (Some r) → b ≡ a ++ r ∷ [] → IfSome k (λ x. slice_get b i ≡ Some x)
+  looked_at a b ks i k n there r known e =
+      let same : Some r ≡ k = some_one (Some r) k (sym known ∙ ap (slice_get ks) n ∙ there) in
+      let P : Option R → Type 0 = λ o. IfSome o (λ x. slice_get b i ≡ Some x) in
+      subst P same (ap (λ s. slice_get s i) e ∙ slice_get-get_or (a ++ r ∷ []) i r (omega (arith, length-append a (r ∷ []))) ∙ ap Some (get_or_push a r r i n))

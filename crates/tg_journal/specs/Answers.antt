@@ -1,5 +1,5 @@
 -- What the calls of a journal answer, and what each answer says of the pass before and after it.
-use Rattle.std.specs.Prelude.{◌<◌, ◌≤◌, Bool, true, false, ◌≡◌, ◌≢◌, ℕ, [], ◌∷◌, ◌++◌, length, take}
+use Rattle.std.specs.Prelude.{◌<◌, ◌≤◌, Bool, true, false, ◌≡◌, ◌≢◌, ℕ, [], ◌∷◌, ◌++◌, length, take, ◌+◌, slice_get, Some}
 use Rattle.tg_journal.specs.declared.answers.JournalFault.{JournalFault}
 use Rattle.tg_journal.specs.declared.answers.JournalFault.TheVariants as start
 use Rattle.tg_journal.specs.declared.answers.MeetFault.{MeetFault}
@@ -8,16 +8,17 @@ use Rattle.tg_journal.specs.declared.answers.Next.{Next}
 use Rattle.tg_journal.specs.declared.answers.Next.TheVariants.{Entry, End, Foreign}
 use Rattle.tg_journal.specs.declared.answers.Put.{Put}
 use Rattle.tg_journal.specs.declared.answers.Put.TheVariants as put
-use Rattle.tg_journal.specs.Pass.{PassState, KnowsAt}
+use Rattle.tg_journal.specs.Limits.{most_cells, most_seats}
+use Rattle.tg_journal.specs.Pass.{PassState, KnowsAt, KnowsFromAsBefore}
 use Rattle.tg_journal.specs.Front.{FrontState}
 
 -- a journal may have so many cells
 abbrev pub AreCells : ℕ → Type 0
-AreCells cells = (0 < cells) × (cells ≤ 4096)
+AreCells cells = (0 < cells) × (cells ≤ most_cells)
 
 -- a journal may have so many passes
 abbrev pub AreSeats : ℕ → Type 0
-AreSeats seats = (0 < seats) × (seats ≤ 64)
+AreSeats seats = (0 < seats) × (seats ≤ most_seats)
 
 -- why no journal was made
 abbrev pub StartFaultSays : ℕ → ℕ → JournalFault → Type 0
@@ -45,11 +46,12 @@ module _ {R : Type 0} (seat : R → ℕ) where
       (place ≡ length old.seen) × (new.mine ≡ old.mine) × ((r : R) × (new.seen ≡ old.seen ++ r ∷ []) × (seat r ≢ old.number))
   PutSays offered (put.Foreign place) old new = (new.seen ≡ old.seen) × (new.mine ≡ old.mine) × IsForeign place new
 
-  -- the pass has taken over what the front has before that place
-  abbrev pub MeetFaultSays : MeetFault → FrontState R → PassState R → Type 0
-  MeetFaultSays (meet.Foreign place) front new = (place < length front.seen) × (new.seen ≡ take place front.seen) × IsForeign place new
+  -- the pass has taken over what the front has before that place, and of the cell there it knows what the front has; of all further cells it knows what it knew
+  abbrev pub MeetFaultSays : MeetFault → FrontState R → PassState R → PassState R → Type 0
+  MeetFaultSays (meet.Foreign place) front old new =
+      (place < length front.seen) × (new.seen ≡ take place front.seen) × (slice_get new.known place ≡ Some (slice_get front.seen place)) × IsForeign place new × KnowsFromAsBefore (place + 1) old new
 
-  -- r: the record at the first place that the pass had not seen
-  abbrev pub LearnSays : Bool → PassState R → PassState R → R → Type 0
-  LearnSays true old new r = (new.seen ≡ old.seen ++ r ∷ []) × (seat r ≢ old.number)
-  LearnSays false old new r = (new.seen ≡ old.seen) × IsForeign (length old.seen) new
+  -- the pass has seen the record that it knew at the first place that it had not seen, unless that is one of its own number
+  abbrev pub LookSays : Bool → PassState R → PassState R → Type 0
+  LookSays true old new = (r : R) × KnowsAt old (length old.seen) r × (new.seen ≡ old.seen ++ r ∷ []) × (seat r ≢ old.number)
+  LookSays false old new = (new.seen ≡ old.seen) × IsForeign (length old.seen) new

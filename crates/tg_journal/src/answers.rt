@@ -52,7 +52,7 @@ impl From<AllocError> for JournalFault {
 /// Why a pass has not seen all that a front has.
 #[derive(Debug, Clone, Copy, PartialEq, Eq)]
 pub enum MeetFault {
-    /// The cell at this place, counting from 0, holds a record of the pass's own number that the pass did not put.
-    /// It has seen only the places before.
+    /// The cell at this place, counting from 0, holds a record of the pass's own number that the
+    /// pass did not put. It has seen only the places before.
     Foreign(usize),
 }

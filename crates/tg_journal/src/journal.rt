@@ -1,22 +1,20 @@
-ghost use Rattle.std.specs.Prelude.{All, IfSome, IsTrue, IsFalse, IsSome, ◌≡◌, ◌≤◌, ◌<◌, ℕ, ◌+◌, length, max, take, map, slice_get, IfOk, IfErr, ◌↔◌};
+ghost use Rattle.std.specs.Prelude.{All, IfSome, IsTrue, IsFalse, IsSome, ◌≡◌, ◌≢◌, ◌≤◌, ◌<◌, ℕ, ◌+◌, length, max, take, map, slice_get, IfOk, IfErr, ◌↔◌};
 ghost use Rattle.std.specs.Option.{option_copied};
+ghost use Rattle.tg_journal.specs.Limits.{most_cells, most_seats};
 ghost use Rattle.tg_journal.specs.Lists.{Begins, Agree};
-ghost use Rattle.tg_journal.specs.Pass.{fresh, IsPass, Remembers, KnowsOthersAsBefore};
-ghost use Rattle.tg_journal.specs.Answers.{AreCells, AreSeats, StartFaultSays, NextSays, PutSays, IsForeign, LearnSays, MeetFaultSays};
+ghost use Rattle.tg_journal.specs.Pass.{fresh, IsPass, Remembers, KnowsAt, KnowsOthersAsBefore, KnowsFromAsBefore};
+ghost use Rattle.tg_journal.specs.Answers.{AreCells, AreSeats, StartFaultSays, NextSays, PutSays, IsForeign, LookSays, MeetFaultSays};
 
 use crate::answers::{JournalFault, MeetFault, Next, Put};
 use crate::entry::Entry;
-use crate::notes::replace;
+use crate::limits::{MOST_CELLS, MOST_SEATS};
 use crate::pass::{Front, Pass};
 use once_cell::race::{Note, OnceBox};
 use std::alloc::{AllocError, Global};
 use std::marker::Model;
 
-const MOST_CELLS: usize = 4096;
-
-const MOST_SEATS: u32 = 64;
-
-/// A row of cells, each of which is set at most once. Contracts see it as the list of its cells' names.
+/// A row of cells, each of which is set at most once. Contracts see it as the list of its cells'
+/// names.
 #[derive(Drop)]
 pub struct Journal<R> {
     pub(crate) cells: Vec<OnceBox<R>>,
@@ -36,7 +34,8 @@ impl<R: Entry> Journal<R> {
     /// A journal of 1 to 4,096 empty cells with 1 to 64 passes, numbered from 1 in their order.
     /// Nothing else makes a pass. All room that the passes need later is made here.
     ///
-    /// Refusals, in this order: `Cells` and `Seats` for a number outside these limits, and `Memory`.
+    /// Refusals, in this order: `Cells` and `Seats` for a number outside these limits, and
+    /// `Memory`.
     pub fn start(
         alloc: Global,
         cells: usize,
@@ -72,8 +71,8 @@ impl<R: Entry> Journal<R> {
     }
 
     fn passes(&self, seats: u32) -> Result<Vec<Pass<R>>, AllocError>
-        requires seats { seats ≤ 64 }
-        requires cells { length self.now ≤ 4096 }
+        requires seats { seats ≤ most_seats }
+        requires cells { length self.now ≤ most_cells }
         ensures number { IfOk result (λ r. length r.items ≡ seats) }
         ensures fresh { IfOk result (λ r.
             (k : ℕ) → k < seats → slice_get r.items k ≡ Some (fresh self.now (k + 1))) }
@@ -88,7 +87,7 @@ impl<R: Entry> Journal<R> {
 
     // `mine` gets room for a place in each cell, so that `put` needs no memory after the setting.
     fn pass(&self, number: u32) -> Result<Pass<R>, AllocError>
-        requires { length self.now ≤ 4096 }
+        requires { length self.now ≤ most_cells }
         ensures { IfOk result (λ p. p ≡ fresh self.now number) }
     {
         let mut notes = Vec::with_capacity(self.alloc, self.cells.len())?;
@@ -106,7 +105,8 @@ impl<R: Entry> Journal<R> {
 
     /// Looks at the first cell that the pass has not seen: one load. It takes no memory.
     ///
-    /// That it finds what another thread has set is promised only of a pass that was told of it by a front.
+    /// That it finds what another thread has set is promised only of a pass that was told of it by
+    /// a front.
     pub fn next<'a>(&'a self, pass: &mut Pass<R>) -> Next<'a, R>
         requires { pass.old.cells ≡ self.now }
         ensures number { pass.new.number ≡ pass.old.number }
@@ -134,7 +134,8 @@ impl<R: Entry> Journal<R> {
         }
     }
 
-    /// Tries to set the first cell that the pass has not seen to a copy of the record, made before: one setting.
+    /// Tries to set the first cell that the pass has not seen to a copy of the record, made before:
+    /// one setting.
     ///
     /// Answers `Full` exactly where the pass has seen every cell. `Memory` changes nothing.
     pub fn put(&self, pass: &mut Pass<R>, entry: &R) -> Put
@@ -195,10 +196,12 @@ impl<R: Entry> Journal<R> {
         Ok(Front { notes })
     }
 
-    /// Has the pass see what the front has seen, whichever of the two has seen more. It takes no memory.
+    /// Has the pass see what the front has seen, whichever of the two has seen more. It takes no
+    /// memory.
     ///
-    /// Refused with `Foreign` where the front has, at a place that the pass had not seen, a record of the pass's own
-    /// number. The pass has then seen what the front has before that place.
+    /// Refused with `Foreign` where the front has, at a place that the pass had not seen, a record
+    /// of the pass's own number. The pass has then seen what the front has before that place, and
+    /// knows that record.
     pub fn meet(&self, pass: &mut Pass<R>, front: &Front<R>) -> Result<(), MeetFault>
         requires pass { pass.old.cells ≡ self.now }
         requires front { front.now.cells ≡ take (length front.now.seen) self.now }
@@ -208,7 +211,8 @@ impl<R: Entry> Journal<R> {
         ensures known { Remembers pass.old pass.new }
         ensures pass { IsPass R.seat_of pass.new }
 
-        // Whatever the answer, what the two had seen agrees, and the pass has seen nothing less than before.
+        // Whatever the answer, what the two had seen agrees, and the pass has seen nothing less
+        // than before.
         ensures agree { Agree pass.old.seen front.now.seen }
         ensures begins { Begins pass.old.seen pass.new.seen }
 
@@ -216,7 +220,10 @@ impl<R: Entry> Journal<R> {
         ensures met { IfOk result (λ _. Begins front.now.seen pass.new.seen) }
         ensures longer { IfOk result (λ _.
             length pass.new.seen ≡ max (length pass.old.seen) (length front.now.seen)) }
-        ensures foreign { IfErr result (λ e. MeetFaultSays R.seat_of e front.now pass.new) }
+        ensures others { IfOk result
+            (λ _. KnowsFromAsBefore (length pass.new.seen) pass.old pass.new) }
+        ensures foreign { IfErr result
+            (λ e. MeetFaultSays R.seat_of e front.now pass.old pass.new) }
     {
         // Its contract says what is true of each pass, also where the front has nothing.
         let _seen = pass.len();
@@ -229,7 +236,8 @@ impl<R: Entry> Journal<R> {
         Ok(())
     }
 
-    // Has the pass see what the note of the next place of a front knows. False where that is a record of its own number.
+    // Has the pass see what the note of the next place of a front knows. False where that is a
+    // record of its own number.
     fn meet_at(&self, pass: &mut Pass<R>, place: usize, note: Note<R>) -> bool
         requires cells { pass.old.cells ≡ self.now }
         requires place { place ≤ length pass.old.seen }
@@ -241,41 +249,41 @@ impl<R: Entry> Journal<R> {
         ensures known { Remembers pass.old pass.new }
         ensures pass { IsPass R.seat_of pass.new }
         ensures begins { Begins pass.old.seen pass.new.seen }
-        ensures met { IsTrue result → IfSome note.known (λ x. slice_get pass.new.seen place ≡ Some x) }
-        ensures longer { IsTrue result → length pass.new.seen ≡ max (length pass.old.seen) (place + 1) }
-        ensures foreign { IsFalse result → IsForeign R.seat_of place pass.new }
+        ensures met { IsTrue result
+            → IfSome note.known (λ x. slice_get pass.new.seen place ≡ Some x) }
+        ensures longer { IsTrue result
+            → length pass.new.seen ≡ max (length pass.old.seen) (place + 1) }
+        ensures others { (other : ℕ) → other ≢ place
+            → slice_get pass.new.known other ≡ slice_get pass.old.known other }
+        ensures foreign { IsFalse result →
+            (slice_get pass.new.known place ≡ Some note.known) × IsForeign R.seat_of place pass.new }
     {
         if place < pass.len() {
             pass.compare(place, note);
             return true;
         }
-        self.learn(pass, note)
+        pass.learn(&self.cells[place], &note);
+        self.look(pass)
     }
 
-    // Has the pass see the record that the note knows, unless it has the pass's own number.
-    fn learn(&self, pass: &mut Pass<R>, mut note: Note<R>) -> bool
+    // Has the pass see the record that it knows of the first cell that it has not seen. False where
+    // that is a record of its own number.
+    fn look(&self, pass: &mut Pass<R>) -> bool
         requires cells { pass.old.cells ≡ self.now }
-        requires cell { slice_get self.now (length pass.old.seen) ≡ Some note.cell }
-        requires known { IsSome note.known }
+        requires known { (r : R) × KnowsAt pass.old (length pass.old.seen) r }
         ensures number { pass.new.number ≡ pass.old.number }
         ensures cells { pass.new.cells ≡ pass.old.cells }
         ensures mine { pass.new.mine ≡ pass.old.mine }
         ensures known { Remembers pass.old pass.new }
         ensures pass { IsPass R.seat_of pass.new }
-        ensures seen { IfSome note.known (LearnSays R.seat_of result pass.old pass.new) }
+        ensures others { KnowsOthersAsBefore pass.old pass.new }
+        ensures seen { LookSays R.seat_of result pass.old pass.new }
     {
-        let place = pass.count;
-        match self.cells[place].get_as(&mut note) {
-            None => unreachable!(),
-            Some(found) => {
-                let own = found.seat() == pass.number;
-                replace(&self.cells[place], &mut pass.notes[place], &note);
-                if own {
-                    return false;
-                }
-                pass.count += 1;
-                true
-            }
+        match self.next(pass) {
+            Next::Entry(_) => true,
+            Next::Foreign(_) => false,
+            // What a pass knows it finds.
+            Next::End => unreachable!(),
         }
     }
 }

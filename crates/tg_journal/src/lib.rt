@@ -1,13 +1,16 @@
-//! A row of write-once cells that running threads fill together, and on which they agree without a lock.
+//! A row of write-once cells that running threads fill together, and on which they agree without a
+//! lock.
 //!
-//! A [`Journal`] has the cells, and each thread owns a [`Pass`], which knows the records of the cells that it has
-//! read, set or been told of. No call waits or takes a lock. A call of `next` loads one cell, a call of `put` sets one,
-//! and `meet` loads those cells that only the front has seen. A thread tells others what it has seen by a [`Front`].
+//! A [`Journal`] has the cells, and each thread owns a [`Pass`], which knows the records of the
+//! cells that it has read, set or been told of. No call waits or takes a lock. A call of `next`
+//! loads one cell, a call of `put` sets one, and `meet` loads those cells that only the front has
+//! seen. A thread tells others what it has seen by a [`Front`].
 #![tactic(auto)]
 
 mod answers;
 mod entry;
 mod journal;
+mod limits;
 mod notes;
 mod pass;
 mod raw_note;

@@ -1,7 +1,7 @@
-ghost use Rattle.std.specs.Prelude.{◌≡◌, ◌<◌, length, slice_get, IfSome};
+ghost use Rattle.std.specs.Prelude.{◌≡◌, ◌<◌, length, slice_get, IfSome, IsSome};
 
 use crate::entry::Entry;
-use crate::notes::duplicate;
+use crate::notes::{duplicate, replace};
 use once_cell::race::{Note, OnceBox};
 use std::marker::Model;
 
@@ -52,7 +52,7 @@ impl<R> Model for Front<R> {
 }
 
 impl<R: Entry> Pass<R> {
-    ghost use Rattle.tg_journal.specs.Pass.{IsPass};
+    ghost use Rattle.tg_journal.specs.Pass.{IsPass, Remembers, KnowsOthersAsBefore};
 
     /// The pass's number. The passes of a journal are numbered from 1.
     pub fn number(&self) -> u32
@@ -67,6 +67,29 @@ impl<R: Entry> Pass<R> {
         ensures pass { IsPass R.seat_of self.now }
     {
         self.count
+    }
+
+    /// How many records the pass has put.
+    pub fn own(&self) -> usize
+        ensures { result ≡ length self.now.mine }
+    {
+        self.mine.len()
+    }
+
+    // What the note knows of the first cell that the pass has not seen, the pass knows too.
+    pub(crate) fn learn(&mut self, cell: &OnceBox<R>, note: &Note<R>)
+        requires cell { slice_get self.old.cells (length self.old.seen) ≡ Some note.now.cell }
+        requires known { IsSome note.now.known }
+        ensures number { self.new.number ≡ self.old.number }
+        ensures cells { self.new.cells ≡ self.old.cells }
+        ensures mine { self.new.mine ≡ self.old.mine }
+        ensures seen { self.new.seen ≡ self.old.seen }
+        ensures there { slice_get self.new.known (length self.old.seen) ≡ Some note.now.known }
+        ensures known { Remembers self.old self.new }
+        ensures others { KnowsOthersAsBefore self.old self.new }
+    {
+        let place = self.count;
+        replace(cell, &mut self.notes[place], note);
     }
 
     // A note that knows what is at a seen place.

@@ -116,7 +116,7 @@ fn two_passes(rt: HostRuntime) -> Result<(), Fail> {
 fn finds(next: Next<'_, Mark>, number: u32) -> bool {
     match next {
         Next::Entry(mark) => mark.number == number,
-        _ => false,
+        Next::End | Next::Foreign(_) => false,
     }
 }
 
@@ -127,9 +127,11 @@ fn filled(
     q: &mut Pass<Mark>,
     s: &mut Pass<Mark>,
 )
-    requires cells { (p.old.cells ≡ journal.now) × (q.old.cells ≡ journal.now) × (s.old.cells ≡ journal.now) }
+    requires cells { (p.old.cells ≡ journal.now) × (q.old.cells ≡ journal.now)
+        × (s.old.cells ≡ journal.now) }
     requires numbers { (p.old.number ≡ 1) × (q.old.number ≡ 2) }
-    ensures { (p.new.cells ≡ journal.now) × (q.new.cells ≡ journal.now) × (s.new.cells ≡ journal.now) }
+    ensures { (p.new.cells ≡ journal.now) × (q.new.cells ≡ journal.now)
+        × (s.new.cells ≡ journal.now) }
 {
     let (a, b, c) = (
         Mark { seat: 1, number: 7 },
@@ -141,6 +143,7 @@ fn filled(
     assert!(rt; journal.put(q, &b) == Put::Lost(0));
     assert!(rt; journal.put(q, &b) == Put::Won(1));
     assert!(rt; journal.put(q, &c) == Put::Full);
+    assert!(rt; p.own() == 1 && q.own() == 1 && s.own() == 0);
 }
 
 fn met(
@@ -153,6 +156,7 @@ fn met(
 {
     let front = journal.front(q)?;
     assert!(rt; front.len() == 2);
+    assert!(rt; journal.at(p, 1).is_none());
     assert!(rt; journal.meet(p, &front).is_ok());
     let number = match journal.at(p, 1) {
         Some(mark) => mark.number,
@@ -201,7 +205,10 @@ fn limits(rt: HostRuntime) {
         let refused = Journal::<Mark>::start(alloc, cells, seats).err();
         assert!(rt; refused == Some(fault), "at {cells} and {seats}");
     }
-    assert!(rt; Journal::<Mark>::start(alloc, 4096, 64).is_ok());
+    for (cells, seats) in [(1, 1), (1, 64), (4096, 1), (4096, 64)] {
+        let made = Journal::<Mark>::start(alloc, cells, seats).is_ok();
+        assert!(rt; made, "at {cells} and {seats}");
+    }
 }
 
 // Where memory is refused once, the second try has it.
@@ -211,7 +218,8 @@ fn started(alloc: Global) -> Result<(Journal<Mark>, Vec<Pass<Mark>>), JournalFau
 {
     match Journal::start(alloc, 2, 1) {
         Ok(made) => Ok(made),
-        Err(_) => Journal::start(alloc, 2, 1),
+        Err(JournalFault::Memory) => Journal::start(alloc, 2, 1),
+        Err(fault) => Err(fault),
     }
 }
 
@@ -249,7 +257,8 @@ fn copy_refused(rt: HostRuntime) {
     assert!(rt; pass.len() == 1);
 }
 
-// It passes whichever one request for memory is refused: `rt try --test --fail-alloc N -- refused`, for N from 1 on.
+// It passes whichever one request for memory is refused: `rt try --test --fail-alloc N -- refused`,
+// for N from 1 on.
 #[test]
 fn request_refused(rt: HostRuntime) -> Result<(), Fail> {
     let Ok((journal, mut passes)) = started(rt.alloc()) else {
@@ -264,7 +273,7 @@ fn request_refused(rt: HostRuntime) -> Result<(), Fail> {
     let seen = pass.len();
     let front = match journal.front(&pass) {
         Ok(front) => front,
-        Err(_) => journal.front(&pass)?,
+        Err(AllocError) => journal.front(&pass)?,
     };
     assert!(rt; pass.len() == seen && front.len() == seen);
     Ok(())

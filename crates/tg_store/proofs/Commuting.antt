@@ -1,6 +1,6 @@
 -- A record that is clear of a session has no row in common with the session's draft: the draft stays as it is.
-use Rattle.std.proofs.Common.{◌≡◌, ◌≤◌, Bool, true, false, ◌||◌, List, [], ◌∷◌, ◌++◌, Option, None, Some, append_assoc, refl, sym, ap, subst, ◌∙◌, arith, true≢false, bytes_eq}
-use Rattle.std.specs.Prelude.{find, if◌then◌else◌, is_none, is_some}
+use Rattle.std.proofs.Common.{◌≡◌, Bool, true, false, ◌||◌, List, [], ◌∷◌, ◌++◌, Option, None, Some, append_assoc, refl, sym, ap, subst, ◌∙◌, arith, true≢false, bytes_eq}
+use Rattle.std.specs.Prelude.{if◌then◌else◌, is_none, is_some}
 use Rattle.std.specs.List.{list_any, IsDistinct}
 use Rattle.std.specs.Map.{keys_of}
 use Rattle.std.proofs.Math.Bool.{or-false, or-true}
@@ -18,16 +18,15 @@ use Rattle.tg_graph.specs.Rules.{refusal_of}
 use Rattle.tg_graph.specs.Graphs.{Name, ProtectionGraph, same_name}
 use Rattle.tg_graph.specs.Rows.{Entries, is_known}
 use Rattle.tg_graph.specs.GraphOf.{graph_of}
-use Rattle.tg_graph.specs.Drafts.{Changes, laid_over, Fits, IsDraft, AreApart, written_by}
-use Rattle.tg_graph.specs.Limits.{most_vertices}
+use Rattle.tg_graph.specs.Drafts.{Changes, laid_over, Fits, AreApart, written_by}
 use Rattle.tg_graph.proofs.Rows.{same_bytes}
 use Rattle.tg_analysis.proofs.NameTests.{same_refl}
 use Rattle.tg_graph.proofs.DraftLaws.{apart_fit, holds-drafted, holds-left}
 use Rattle.tg_store.specs.declared.answers.Answered.{Answered}
 use Rattle.tg_store.specs.Answers.{AreAnswers, session_refusal, lack_of_room, or_else, after_step, after_steps}
-use Rattle.tg_store.specs.Touches.{step_writes, writes, step_touches, reply_touches, touches, creates, spoiler, name_count, IsClear}
+use Rattle.tg_store.specs.Touches.{step_writes, writes, step_touches, reply_touches, touches, creates, IsClear}
 use Rattle.tg_store.specs.Drafted.{drafted, GainsRows, IsDraftOf}
-use Rattle.tg_store.proofs.Agreement.{Agree, agree_self, AlikeAlong, apart_find, apart-none, apart-among, untouched-steps, vertices-steps}
+use Rattle.tg_store.proofs.Agreement.{agree_self, AlikeAlong, apart_find, apart-none, apart-among, untouched-steps, vertices-steps}
 use Rattle.tg_store.proofs.Crowds.{alike-clear}
 
 -- ---- names that are put into a list

@@ -7,3 +7,7 @@ pub mod SeatLemmas
 pub mod Numbers
 pub mod HallLemmas
 pub mod RunLemmas
+pub mod Weighed
+pub mod RunningSeats
+pub mod RunningSessions
+pub mod Agreeing

@@ -1,8 +1,8 @@
 -- What the calls of a seat keep.
-use Rattle.std.proofs.Common.{◌≡◌, Option, None, IfSome, ◌+◌, ◌≤◌, ◌++◌, List, [], ◌∷◌, length, take, Some, All, sym, ap, subst, ◌∙◌, arith, bytes_eq}
+use Rattle.std.proofs.Common.{◌≡◌, Option, None, IfSome, ◌+◌, ◌++◌, List, [], ◌∷◌, length, take, drop, Some, All, sym, ap, subst, ◌∙◌, arith, bytes_eq}
 use Rattle.std.specs.Prelude.{slice_get}
 use Rattle.std.specs.Option.{option_map}
-use Rattle.std.proofs.lemmas.List.{length-append, take-append-le, take_all}
+use Rattle.std.proofs.lemmas.List.{length-append, take-append-le, take_all, take-append-drop}
 use Rattle.std.proofs.lemmas.List.Elements.{All-push}
 use Rattle.std.proofs.lemmas.Option.{slice_get_within}
 use Rattle.std.specs.List.{IsDistinct}
@@ -21,7 +21,7 @@ use Rattle.tg_store.specs.Histories.{replay}
 use Rattle.tg_store.specs.Touches.{IsClear, step_writes}
 use Rattle.tg_store.specs.Drafted.{drafted, GainsRows, IsDraftOf}
 use Rattle.tg_store.specs.Seats.{IsSessionOn, Rests}
-use Rattle.tg_store.proofs.Ordered.{after_steps-push, AreAnswers-push, replay-next, replay-push}
+use Rattle.tg_store.proofs.Ordered.{after_steps-push, AreAnswers-push, replay-append, replay-next, replay-push}
 use Rattle.tg_store.proofs.Commuting.{rows-more, draft-clear, answers-clear}
 
 -- a draft with one step more
@@ -77,3 +77,8 @@ rests-grown g history s r h = record {
   within = omega (arith, h.within, length-append history (r ∷ []));
   replayed = h.replayed ∙ ap (replay g) (sym (take-append-le s.taken history (r ∷ []) h.within));
 }
+
+-- what is left leads a seat to the graph of the whole history
+pub rests-whole : (g : ProtectionGraph) (history : List Record) (s : SeatState) → Rests g history s → replay (graph_of s.graph) (drop s.taken history) ≡ replay g history
+rests-whole g history s h =
+    ap (λ k. replay k (drop s.taken history)) h.replayed ∙ sym (replay-append g (take s.taken history) (drop s.taken history)) ∙ ap (replay g) (take-append-drop s.taken history)

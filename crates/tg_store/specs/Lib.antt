@@ -1,4 +1,5 @@
 pub mod StepWords
+pub mod Sameness
 pub mod Answers
 pub mod Histories
 pub mod Touches
@@ -8,3 +9,10 @@ pub mod Worlds
 pub mod Seats
 pub mod HallFields
 pub mod Acts
+pub mod Running
+pub mod Weighing
+pub mod Outcomes
+pub mod Looks
+pub mod Offers
+pub mod Attempts
+pub mod Agreed

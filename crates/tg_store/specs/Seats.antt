@@ -1,5 +1,5 @@
 -- The fields of a seat, and what is true of them.
-use Rattle.std.specs.Prelude.{slice_get, ◌≡◌, ◌≤◌, ◌<◌, ◌+◌, ℕ, ⊤, List, [], ◌∷◌, drop, All, IfSome, take, length, Option, None, Some}
+use Rattle.std.specs.Prelude.{slice_get, ◌≡◌, ◌≤◌, ◌+◌, ℕ, List, All, IfSome, take, length, Option, None, Some}
 use Rattle.std.specs.Option.{option_map}
 use Rattle.tg_graph.specs.Rows.{Entries}
 use Rattle.tg_graph.specs.Graphs.{ProtectionGraph}
@@ -9,9 +9,7 @@ use Rattle.tg_store.specs.declared.seats.SeatState.{SeatState}
 use Rattle.tg_store.specs.declared.records.Record.{Record}
 use Rattle.tg_store.specs.declared.answers.Answered.{Answered}
 use Rattle.tg_store.specs.declared.events.HallFault.{HallFault}
-use Rattle.tg_store.specs.declared.events.HallFault.TheVariants.{Changed, Crowded, Memory}
-use Rattle.tg_store.specs.declared.events.HallReply.{HallReply}
-use Rattle.tg_store.specs.declared.events.HallReply.TheVariants as reply
+use Rattle.tg_store.specs.declared.events.HallFault.TheVariants.{Changed, Crowded}
 use Rattle.tg_store.specs.Touches.{IsClear, IsSpoilt, IsOvercrowded}
 use Rattle.tg_store.specs.StepWords.{IsNamedStep}
 use Rattle.tg_store.specs.Answers.{AreAnswers}

@@ -1,7 +1,6 @@
 -- The names that a record writes, those that a session touches, and when a record stands in a session's way.
 use Rattle.std.specs.Prelude.{◌≡◌, ℕ, ◌+◌, ◌<◌, Bool, true, false, ◌||◌, if◌then◌else◌, List, [], ◌∷◌, ◌++◌, Option, None, Some, is_none, find, ⊤}
 use Rattle.std.specs.List.{list_any}
-use Rattle.tg_graph.specs.declared.rules.Rule.{Rule}
 use Rattle.tg_graph.specs.declared.rules.Rule.TheVariants.{Take, Grant, Create, Remove}
 use Rattle.tg_graph.specs.declared.rules.Refusal.TheVariants.{Unknown, Taken, Empty, NoTake, NoGrant, NotHeld, Full}
 use Rattle.tg_graph.specs.declared.session.Step.{Step}

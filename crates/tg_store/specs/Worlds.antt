@@ -1,5 +1,5 @@
 -- The world of a hall: what each event may answer, and the world after it.
-use Rattle.std.specs.Prelude.{◌≡◌, ℕ, ◌+◌, ◌-◌, ◌<◌, ◌≤◌, ◌==◌, All, IfSome, if◌then◌else◌, List, [], ◌∷◌, ◌++◌, length, take, slice_get, slice_set, Option, None, Some, MatchOption, Result, Ok, Err, ⊤, ◌&&◌, nat_lt, nat_le, replicate}
+use Rattle.std.specs.Prelude.{Bool, true, false, ◌≡◌, ℕ, ◌+◌, ◌-◌, ◌<◌, ◌≤◌, ◌==◌, All, IfSome, if◌then◌else◌, List, [], ◌∷◌, ◌++◌, length, take, slice_get, slice_set, Option, None, Some, MatchOption, Result, Ok, Err, ⊤, ◌&&◌, nat_lt, nat_le, replicate}
 use Rattle.tg_graph.specs.declared.session.Step.{Step}
 use Rattle.tg_graph.specs.Graphs.{ProtectionGraph}
 use Rattle.tg_graph.specs.Rows.{Entries}
@@ -147,6 +147,29 @@ IsStageable (Learn k) = ⊤
 IsStageable (Stage k step) = IsNamedStep step
 IsStageable (Put k) = ⊤
 IsStageable (Abort k) = ⊤
+
+-- whether an event may take memory: to open a session and to give one up take none
+abbrev pub takes_memory : Event → Bool
+takes_memory (Begin k) = false
+takes_memory (Learn k) = true
+takes_memory (Stage k step) = true
+takes_memory (Put k) = true
+takes_memory (Abort k) = false
+
+-- whether memory was refused
+abbrev pub is_short_of_memory : HallReply → Bool
+is_short_of_memory reply.Done = false
+is_short_of_memory (reply.Learned place) = false
+is_short_of_memory reply.Nothing = false
+is_short_of_memory (reply.Said answer) = false
+is_short_of_memory (reply.Put place) = false
+is_short_of_memory (reply.Refused NoSeat) = false
+is_short_of_memory (reply.Refused AlreadyOpen) = false
+is_short_of_memory (reply.Refused NotOpen) = false
+is_short_of_memory (reply.Refused (Changed place name)) = false
+is_short_of_memory (reply.Refused (Crowded place)) = false
+is_short_of_memory (reply.Refused JournalFull) = false
+is_short_of_memory (reply.Refused Memory) = true
 
 -- why no hall is made, but for want of memory
 abbrev pub opening_fault : ProtectionGraph → ℕ → ℕ → Option StoreFault

@@ -1,7 +1,8 @@
 //! The steps of a session, each with its reply.
-ghost use Rattle.std.specs.Prelude.{◌≡◌, All};
+ghost use Rattle.std.specs.Prelude.{◌≡◌, All, IfOk};
 ghost use Rattle.tg_store.specs.StepWords.{IsNamedStep};
 
+use std::alloc::AllocError;
 use std::marker::Model;
 use tg_graph::{Reply, Step};
 
@@ -41,6 +42,26 @@ impl Model for Steps {
     ghost invariant = { λ s. All (λ a. IsNamedStep a.step) s.kept.items };
 }
 
+impl PartialEq for Steps {
+    ghost use Rattle.std.specs.Cmp.Lexicographic.{pointwise, lists_per};
+    ghost use Rattle.tg_store.specs.contracts.answers.AnsweredPartialEq.TheImpl.Laws.{laws-law};
+
+    ghost eq = { pointwise ⟦<Answered as PartialEq>⟧.eq };
+
+    ghost laws = { lists_per laws-law };
+
+    fn eq(&self, other: &Steps) -> bool {
+        self.as_slice() == other.as_slice()
+    }
+}
+
+impl Eq for Steps {
+    ghost use Rattle.std.specs.Cmp.Lexicographic.{lists_equiv};
+    ghost use Rattle.tg_store.specs.contracts.answers.AnsweredEq.TheImpl.Laws.{laws-law};
+
+    ghost laws = { lists_equiv laws-law };
+}
+
 impl Steps {
     /// The steps in their order.
     pub fn as_slice(&self) -> &[Answered]
@@ -56,5 +77,22 @@ impl Steps {
         ensures { result ≡ kept.items }
     {
         Steps { kept }
+    }
+
+    /// The steps as a list that can grow.
+    pub fn into_vec(self) -> Vec<Answered>
+        ensures value { result.items ≡ self }
+        ensures named { All (λ a. IsNamedStep a.step) result.items }
+    {
+        self.kept
+    }
+
+    /// The same steps once more.
+    pub fn copy(&self) -> Result<Steps, AllocError>
+        ensures { IfOk result (λ copy. copy ≡ self.now) }
+    {
+        Ok(Steps {
+            kept: self.kept.clone()?,
+        })
     }
 }

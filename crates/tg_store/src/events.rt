@@ -28,7 +28,8 @@ pub enum HallFault {
     NotOpen,
     /// The record at the place wrote a name that the session touches. The session has ended.
     Changed { place: usize, name: Name },
-    /// With the record at the place the session would have too many vertices. The session has ended.
+    /// With the record at the place the session would have too many vertices. The session has
+    /// ended.
     Crowded { place: usize },
     /// Every cell has its record. The session has ended.
     JournalFull,

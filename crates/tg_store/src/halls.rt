@@ -1,12 +1,12 @@
 //! The monitor in one thread.
-ghost use Rattle.std.specs.Prelude.{◌≡◌, ◌+◌, ◌<◌, ◌≤◌, ◌⊎◌, ◌∷◌, ◌++◌, [], true, vec_len, All, IfOk, OnOk, OnErr, IfSome, Some, None, MatchOption, length, slice_get, map, replicate};
+ghost use Rattle.std.specs.Prelude.{◌≡◌, ◌+◌, ◌<◌, ◌≤◌, ◌⊎◌, ◌∷◌, ◌++◌, [], true, false, vec_len, All, IfOk, OnOk, OnErr, IfSome, Some, None, MatchOption, length, slice_get, map, replicate};
 ghost use Rattle.std.specs.Option.{option_map, option_copied};
 ghost use Rattle.tg_graph.specs.Graphs.{ProtectionGraph};
 ghost use Rattle.tg_graph.specs.GraphOf.{graph_of};
 ghost use Rattle.tg_graph.specs.Limits.{most_cells};
 ghost use Rattle.tg_store.specs.Answers.{AreAnswers};
 ghost use Rattle.tg_store.specs.Histories.{replay, count_of, IsLegal, IsNumbered, AreApart};
-ghost use Rattle.tg_store.specs.Worlds.{fresh_seat, seat_of, seat_in, rests_on, TakeWithin, HoldTrue, Moves, Happens, Run, IsStageable, OpensHall};
+ghost use Rattle.tg_store.specs.Worlds.{takes_memory, is_short_of_memory, fresh_seat, seat_of, seat_in, rests_on, TakeWithin, HoldTrue, Moves, Happens, Run, IsStageable, OpensHall};
 ghost use Rattle.tg_store.specs.Acts.{is_learned, is_free, MayLearn, Repeats, CatchesUp, Acts, IsStageableAct};
 ghost use Rattle.std.specs.Vec.{vec_capacity};
 ghost use Rattle.tg_store.specs.Seats.{seen_seat, IsConsistent, Rests};
@@ -60,7 +60,8 @@ fn fresh_seats(alloc: Global, opening: &Graph, count: u32) -> Result<Vec<SeatSta
 
 // The place of the seat of a number among so many.
 fn index_of(number: u32, count: usize) -> Option<usize>
-    ensures { MatchOption result ((number ≡ 0) ⊎ (count < number)) (λ i. (i + 1 ≡ number) × (i < count)) }
+    ensures { MatchOption result ((number ≡ 0) ⊎ (count < number))
+        (λ i. (i + 1 ≡ number) × (i < count)) }
 {
     let number = number as usize;
     if number == 0 || number > count {
@@ -92,15 +93,19 @@ fn event_at(
 ) -> HallReply
     requires stageable { IsStageable event.now }
     requires consistent { IsConsistent seat.old }
-    requires answers { IfSome (slice_get records.old.items seat.old.taken) (λ r. AreAnswers (graph_of seat.old.graph) r.steps) }
+    requires answers { IfSome (slice_get records.old.items seat.old.taken)
+        (λ r. AreAnswers (graph_of seat.old.graph) r.steps) }
     requires room { length records.old.items ≤ cells }
     requires cells { cells ≤ most_cells }
     requires within { seat.old.taken ≤ length records.old.items }
     requires counted { seat.old.commits ≡ count_of (seat_in event.now) records.old.items }
-    ensures moves { Moves (graph_of seat.old.graph) cells records.old.items (seen_seat seat.old) event.now result (seen_seat seat.new) records.new.items }
-    ensures rests { (g : ProtectionGraph) → Rests g records.old.items seat.old → Rests g records.new.items seat.new }
+    ensures moves { Moves (graph_of seat.old.graph) cells records.old.items
+        (seen_seat seat.old) event.now result (seen_seat seat.new) records.new.items }
+    ensures rests { (g : ProtectionGraph) → Rests g records.old.items seat.old
+        → Rests g records.new.items seat.new }
     ensures consistent { IsConsistent seat.new }
     ensures counted { seat.new.commits ≡ count_of (seat_in event.now) records.new.items }
+    ensures spared { takes_memory event.now ≡ false → is_short_of_memory result ≡ false }
 {
     match *event {
         Event::Begin(_) => seat.begin(),
@@ -136,10 +141,11 @@ fn note(replies: &mut Vec<HallReply>, reply: HallReply)
 }
 
 impl Hall {
-    /// A hall over a copy of the opening graph, with an empty history of so many cells, and with seats from number 1 on.
+    /// A hall over a copy of the opening graph, with an empty history of so many cells, and with
+    /// seats from number 1 on.
     ///
-    /// Its faults, in this order: the graph has more than 1,024 vertices; the cells are not 1 to 4,096; the seats are
-    /// not 1 to 64; memory was refused.
+    /// Its faults, in this order: the graph has more than 1,024 vertices; the cells are not 1 to
+    /// 4,096; the seats are not 1 to 64; memory was refused.
     pub fn new(alloc: Global, graph: &Graph, cells: usize, seats: u32) -> Result<Hall, StoreFault>
         ensures { OpensHall graph.now cells seats result }
     {
@@ -186,7 +192,8 @@ impl Hall {
     // The seat of a number.
     fn seat(&self, number: u32) -> Option<&SeatState>
         ensures seen { option_map (λ s. seen_seat s.now) result ≡ seat_of self.now number }
-        ensures rests { IfSome result (λ s. Rests (graph_of self.now.opening) self.now.history s.now) }
+        ensures rests { IfSome result
+            (λ s. Rests (graph_of self.now.opening) self.now.history s.now) }
     {
         let i = index_of(number, self.seats.len())?;
         Some(&self.seats[i])
@@ -202,24 +209,46 @@ impl Hall {
 
     /// The graph of the seat of a number: the replay of what it has taken in.
     pub fn graph(&self, seat: u32) -> Option<&Graph>
-        ensures { option_map (λ g. graph_of g.now) result ≡ option_map (rests_on self.now) (seat_of self.now seat) }
+        ensures { option_map (λ g. graph_of g.now) result
+            ≡ option_map (rests_on self.now) (seat_of self.now seat) }
     {
         let seat = self.seat(seat)?;
         Some(seat.graph())
     }
 
+    // The number of a seat that has taken in the most. Each seat leads to the same graph: this one
+    // soonest.
+    fn furthest(&self) -> u32 {
+        let mut furthest = 1;
+        let mut most = 0;
+        for number in 1..=MOST_SEATS {
+            if let Some(taken) = self.taken(number) {
+                if taken > most {
+                    furthest = number;
+                    most = taken;
+                }
+            }
+        }
+        furthest
+    }
+
     /// The replay of the whole history, which is legal.
     pub fn last(&self) -> Result<Graph, AllocError>
-        ensures graph { IfOk result (λ graph. graph_of graph ≡ replay (graph_of self.now.opening) self.now.history) }
+        ensures graph { IfOk result
+            (λ graph. graph_of graph ≡ replay (graph_of self.now.opening) self.now.history) }
         ensures legal { IsLegal (graph_of self.now.opening) self.now.history }
     {
-        replays::replayed(&self.opening, self.records.as_slice())
+        match self.seat(self.furthest()) {
+            Some(seat) => seat.replayed(self.records.as_slice()),
+            None => replays::replayed(&self.opening, self.records.as_slice()),
+        }
     }
 
     // One event.
     fn happen(&mut self, event: &Event) -> HallReply
         requires { IsStageable event.now }
-        ensures { Happens self.old event.now result self.new }
+        ensures happens { Happens self.old event.now result self.new }
+        ensures spared { takes_memory event.now ≡ false → is_short_of_memory result ≡ false }
     {
         match index_of(seat_in(event), self.seats.len()) {
             None => HallReply::Refused(HallFault::NoSeat),
@@ -229,10 +258,12 @@ impl Hall {
 
     /// One event at a seat.
     ///
-    /// `NoSeat` comes exactly where no seat has the number. What each event answers and leaves is `Happens`.
+    /// `NoSeat` comes exactly where no seat has the number. What each event answers and leaves is
+    /// `Happens`. To open a session and to give one up take no memory.
     pub fn step(&mut self, event: Event) -> HallReply
         requires { IsStageable event }
-        ensures { Happens self.old event result self.new }
+        ensures happens { Happens self.old event result self.new }
+        ensures spared { takes_memory event ≡ false → is_short_of_memory result ≡ false }
     {
         self.happen(&event)
     }
@@ -287,7 +318,8 @@ impl Hall {
         }
     }
 
-    /// One act of a seat: to take in all that is left and open a session, to stage a step, to commit, or to give up.
+    /// One act of a seat: to take in all that is left and open a session, to stage a step, to
+    /// commit, or to give up.
     ///
     /// Want of memory ends an act where it stands.
     pub fn act(&mut self, seat: u32, act: &Act) -> HallReply

@@ -1,4 +1,10 @@
-//! A monitor in one thread: seats that take in one history of committed sessions.
+//! Monitors of sessions: seats that take in one history of committed sessions.
+//!
+//! A [`Hall`] is one value, for one thread. A [`Store`] is for running threads, which share it
+//! without a lock: each owns a [`Seat`], and the cells of the store's journal are all that they
+//! share. `begin` and `commit` look at cells, `commit` sets one, `meet` looks at those that only
+//! the front has seen, and `at` and `agreed` read seen cells again. `step` and `abort` touch no
+//! word that another seat's thread touches.
 #![tactic(auto)]
 
 #[cfg(test)]
@@ -8,16 +14,29 @@ mod events;
 mod halls;
 #[cfg(test)]
 mod memory_tests;
+mod outcomes;
 mod records;
 mod replays;
+mod running_seats;
+mod running_sessions;
 mod seats;
 mod spoilers;
+#[cfg(test)]
+mod store_memory_tests;
+#[cfg(test)]
+mod store_tests;
+mod stores;
 #[cfg(test)]
 mod test_helpers;
 #[cfg(test)]
 mod tests;
+mod weighing;
 
 pub use answers::{Answered, Steps};
 pub use events::{Event, HallFault, HallReply, StoreFault};
 pub use halls::Hall;
+pub use outcomes::{BeginFault, Begun, CommitFault, Committed, Receipt, StoreMeetFault};
 pub use records::Record;
+pub use running_seats::Seat;
+pub use running_sessions::Session;
+pub use stores::Store;

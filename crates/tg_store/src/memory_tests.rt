@@ -1,5 +1,5 @@
-// Each test passes whichever one request for memory is refused: `rt try --test --fail-alloc N -- memory_tests`, for N from 1 on.
-// Where a call was refused memory, its second try has it.
+// Each test passes whichever one request for memory is refused: `rt try --test --fail-alloc N --
+// memory_tests`, for N from 1 on. Where a call was refused memory, its second try has it.
 ghost use Rattle.tg_store.specs.Acts.{IsStageableAct};
 ghost use Rattle.tg_store.specs.StepWords.{IsNamedStep};
 ghost use Rattle.tg_store.specs.Worlds.{IsStageable};
@@ -64,15 +64,22 @@ fn told(rt: &impl Abort, hall: &mut Hall, seat: u32, act: Act, reply: HallReply)
     assert!(rt; answer == reply);
 }
 
+// The vertex of the number x creates that of the number n with r.
+fn creation_of(x: u32, n: u32) -> Step
+    ensures { IsNamedStep result }
+{
+    Step::Do(Rule::Create {
+        x: Name::helper(x),
+        n: Name::helper(n),
+        rights: Rights::of(Right::R),
+    })
+}
+
 // _0 creates _1 with r.
 fn creation() -> Step
     ensures { IsNamedStep result }
 {
-    Step::Do(Rule::Create {
-        x: Name::helper(0),
-        n: Name::helper(1),
-        rights: Rights::of(Right::R),
-    })
+    creation_of(0, 1)
 }
 
 // Whether _0 has r over _1.
@@ -117,6 +124,37 @@ fn refused_events(rt: HostRuntime) -> Result<(), Fail> {
     happens(&rt, &mut hall, Event::Put(1), HallReply::Put(0));
     happens(&rt, &mut hall, Event::Learn(2), HallReply::Learned(0));
     assert!(rt; hall.len() == 1 && hall.taken(2) == Some(1));
+    Ok(())
+}
+
+// To open a session takes no memory.
+#[test]
+fn bare_begin(rt: HostRuntime) -> Result<(), Fail> {
+    let mut hall = opened(&rt, rt.alloc())?;
+    assert!(rt; hall.step(Event::Begin(1)) == HallReply::Done);
+    assert!(rt; hall.act(2, &Act::Begin) == HallReply::Done);
+    Ok(())
+}
+
+// A record is taken in under an open session, which goes on from where it was.
+#[test]
+fn refused_under_a_session(rt: HostRuntime) -> Result<(), Fail> {
+    let mut hall = opened(&rt, rt.alloc())?;
+    let created = HallReply::Said(Reply::Done);
+    happens(&rt, &mut hall, Event::Begin(1), HallReply::Done);
+    happens(&rt, &mut hall, Event::Stage(1, creation()), created);
+    happens(&rt, &mut hall, Event::Put(1), HallReply::Put(0));
+    happens(&rt, &mut hall, Event::Learn(2), HallReply::Learned(0));
+    happens(&rt, &mut hall, Event::Begin(1), HallReply::Done);
+    happens(&rt, &mut hall, Event::Begin(2), HallReply::Done);
+    happens(&rt, &mut hall, Event::Stage(1, creation_of(0, 2)), created);
+    happens(&rt, &mut hall, Event::Stage(2, creation_of(1, 3)), created);
+    happens(&rt, &mut hall, Event::Put(1), HallReply::Put(1));
+    happens(&rt, &mut hall, Event::Put(2), HallReply::Learned(1));
+    happens(&rt, &mut hall, Event::Stage(2, creation_of(1, 4)), created);
+    happens(&rt, &mut hall, Event::Put(2), HallReply::Put(2));
+    let last = last_of(&hall)?;
+    assert!(rt; last.len() == 5 && last.holds(Name::helper(1), Right::R, Name::helper(4)));
     Ok(())
 }
 

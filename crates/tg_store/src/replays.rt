@@ -40,13 +40,17 @@ fn refused(base: &Graph, draft: &Draft, rule: &Rule) -> Refusal
     }
 }
 
-// Carries out a rule in a session. An error changes nothing.
-fn carry_out(base: &Graph, draft: &mut Draft, rule: &Rule) -> Result<Reply, AllocError>
+/// Carries out a rule in a session. An error changes nothing.
+pub fn carry_out(base: &Graph, draft: &mut Draft, rule: &Rule) -> Result<Reply, AllocError>
     requires fits { Fits base.now draft.old }
     requires named { IsNamed (rights_of rule.now) }
-    ensures reply { IfOk result (λ reply. IsAnswer (drafted base.now draft.old) (Step.Do rule.now) reply) }
-    ensures after { OnOk result (drafted base.now draft.new ≡ after_step (drafted base.now draft.old) (Step.Do rule.now)) }
-    ensures rows { OnOk result (GainsRows draft.old (step_writes (drafted base.now draft.old) (Step.Do rule.now)) draft.new) }
+    ensures reply { IfOk result
+        (λ reply. IsAnswer (drafted base.now draft.old) (Step.Do rule.now) reply) }
+    ensures after { OnOk result
+        (drafted base.now draft.new ≡ after_step (drafted base.now draft.old) (Step.Do rule.now)) }
+    ensures rows { OnOk result
+        (GainsRows draft.old (step_writes (drafted base.now draft.old) (Step.Do rule.now))
+        draft.new) }
     ensures err { OnErr result (draft.new ≡ draft.old) }
     ensures fits { Fits base.now draft.new }
 {
@@ -101,7 +105,8 @@ fn answer_share(
     y: Name,
 ) -> Result<Reply, AllocError>
     requires { Fits base.now draft.now }
-    ensures { IfOk result (λ reply. IsAnswer (drafted base.now draft.now) (Step.Share right x y) reply) }
+    ensures { IfOk result
+        (λ reply. IsAnswer (drafted base.now draft.now) (Step.Share right x y) reply) }
 {
     if let Some(refusal) = unknown_of_two(base, draft, x, y) {
         return Ok(Reply::Refused(refusal));
@@ -125,8 +130,10 @@ pub fn answer(
     requires fits { Fits base.now draft.old }
     requires named { IsNamedStep step.now }
     ensures reply { IfOk result (λ reply. IsAnswer (drafted base.now draft.old) step.now reply) }
-    ensures after { OnOk result (drafted base.now draft.new ≡ after_step (drafted base.now draft.old) step.now) }
-    ensures rows { OnOk result (GainsRows draft.old (step_writes (drafted base.now draft.old) step.now) draft.new) }
+    ensures after { OnOk result
+        (drafted base.now draft.new ≡ after_step (drafted base.now draft.old) step.now) }
+    ensures rows { OnOk result
+        (GainsRows draft.old (step_writes (drafted base.now draft.old) step.now) draft.new) }
     ensures err { OnErr result (draft.new ≡ draft.old) }
     ensures fits { Fits base.now draft.new }
 {
@@ -141,8 +148,10 @@ pub fn answer(
 fn lay(base: &Graph, draft: &mut Draft, step: &Step) -> Result<(), AllocError>
     requires fits { Fits base.now draft.old }
     requires named { IsNamedStep step.now }
-    ensures after { OnOk result (drafted base.now draft.new ≡ after_step (drafted base.now draft.old) step.now) }
-    ensures rows { OnOk result (GainsRows draft.old (step_writes (drafted base.now draft.old) step.now) draft.new) }
+    ensures after { OnOk result
+        (drafted base.now draft.new ≡ after_step (drafted base.now draft.old) step.now) }
+    ensures rows { OnOk result
+        (GainsRows draft.old (step_writes (drafted base.now draft.old) step.now) draft.new) }
     ensures fits { Fits base.now draft.new }
 {
     match *step {

@@ -1,5 +1,5 @@
 //! The seats of a hall.
-ghost use Rattle.std.specs.Prelude.{◌≡◌, ◌<◌, ◌≤◌, ◌∷◌, ◌++◌, [], List, All, IsSome, IfOk, OnOk, OnErr, IfSome, Some, None, length, slice_get, vec_len, not, is_none};
+ghost use Rattle.std.specs.Prelude.{◌≡◌, ◌<◌, ◌≤◌, ◌∷◌, ◌++◌, [], List, All, IsSome, IfOk, OnOk, OnErr, IfSome, Some, None, length, slice_get, vec_len, not, is_none, false};
 ghost use Rattle.std.specs.Vec.{vec_capacity};
 ghost use Rattle.tg_graph.specs.Graphs.{ProtectionGraph};
 ghost use Rattle.tg_graph.specs.GraphOf.{graph_of};
@@ -7,9 +7,9 @@ ghost use Rattle.tg_graph.specs.Limits.{most_cells};
 ghost use Rattle.tg_store.specs.declared.records.Record.{Record};
 ghost use Rattle.tg_store.specs.StepWords.{IsNamedStep};
 ghost use Rattle.tg_store.specs.Answers.{IsAnswer, AreAnswers, after_steps};
-ghost use Rattle.tg_store.specs.Histories.{count_of};
+ghost use Rattle.tg_store.specs.Histories.{count_of, replay};
 ghost use Rattle.tg_store.specs.Touches.{IsClear};
-ghost use Rattle.tg_store.specs.Worlds.{one_further, fresh_seat, Begins, TakesIn, Learns, Stages, Aborts, Joins, Puts};
+ghost use Rattle.tg_store.specs.Worlds.{is_short_of_memory, one_further, fresh_seat, Begins, TakesIn, Learns, Stages, Aborts, Joins, Puts};
 
 use crate::answers::{Answered, Steps};
 use crate::events::{HallFault, HallReply};
@@ -21,12 +21,12 @@ use tg_graph::{Draft, Graph, Refusal, Reply, Rule, Step};
 /// An open session: its draft over the graph of its seat, and its steps with their replies.
 #[derive(Drop)]
 pub struct OpenSession {
-    draft: Draft,
-    kept: Vec<Answered>,
+    pub(crate) draft: Draft,
+    pub(crate) kept: Vec<Answered>,
 }
 
-/// A seat: how many records it has taken in, the graph that they lead to, how many sessions it has committed, and its
-/// open session.
+/// A seat: how many records it has taken in, the graph that they lead to, how many sessions it has
+/// committed, and its open session.
 #[derive(Drop)]
 pub struct SeatState {
     taken: usize,
@@ -50,12 +50,27 @@ fn keep(kept: &mut Vec<Answered>, step: Step, reply: Reply)
 impl OpenSession {
     ghost use Rattle.tg_store.specs.Seats.{IsSessionOn};
 
+    /// A session without steps.
+    pub(crate) fn new(base: &Graph, alloc: Global) -> OpenSession
+        ensures on { IsSessionOn base.now result }
+        ensures kept { result.kept.items ≡ [] }
+    {
+        OpenSession {
+            draft: base.draft(),
+            kept: Vec::new(alloc),
+        }
+    }
+
     // Answers a step, and keeps it with its reply. An error changes no step.
-    fn stage(&mut self, base: &Graph, step: &Step) -> Result<Reply, AllocError>
+    pub(crate) fn stage(&mut self, base: &Graph, step: &Step) -> Result<Reply, AllocError>
         requires on { IsSessionOn base.now self.old }
         requires named { IsNamedStep step.now }
-        ensures reply { IfOk result (λ reply. IsAnswer (after_steps (graph_of base.now) self.old.kept.items) step.now reply) }
-        ensures kept { IfOk result (λ reply. self.new.kept.items ≡ self.old.kept.items ++ (record { step = step.now; reply = reply }) ∷ []) }
+        ensures reply { IfOk result
+            (λ reply. IsAnswer (after_steps (graph_of base.now) self.old.kept.items) step.now
+            reply) }
+        ensures kept { IfOk result
+            (λ reply. self.new.kept.items ≡ self.old.kept.items
+            ++ (record { step = step.now; reply = reply }) ∷ []) }
         ensures err { OnErr result (self.new.kept.items ≡ self.old.kept.items) }
         ensures on { IsSessionOn base.now self.new }
     {
@@ -104,6 +119,17 @@ impl SeatState {
         &self.graph
     }
 
+    /// The graph that all records lead to, those that the seat has taken in and those that are
+    /// left.
+    pub fn replayed(&self, records: &[Record]) -> Result<Graph, AllocError>
+        requires { self.now.taken ≤ length records.now }
+        ensures { IfOk result
+            (λ graph. (g : ProtectionGraph) → Rests g records.now self.now
+            → graph_of graph ≡ replay g records.now) }
+    {
+        replays::replayed(&self.graph, &records[self.taken..])
+    }
+
     /// Whether a session is open.
     pub fn is_open(&self) -> bool
         ensures { not result ≡ is_none (seen_seat self.now).session }
@@ -115,6 +141,7 @@ impl SeatState {
     pub fn begin(&mut self) -> HallReply
         requires { IsConsistent self.old }
         ensures begins { Begins (seen_seat self.old) result (seen_seat self.new) }
+        ensures spared { is_short_of_memory result ≡ false }
         ensures graph { self.new.graph ≡ self.old.graph }
         ensures consistent { IsConsistent self.new }
         ensures commits { self.new.commits ≡ self.old.commits }
@@ -122,10 +149,7 @@ impl SeatState {
         if self.session.is_some() {
             return HallReply::Refused(HallFault::AlreadyOpen);
         }
-        self.session = Some(OpenSession {
-            draft: self.graph.draft(),
-            kept: Vec::new(self.alloc),
-        });
+        self.session = Some(OpenSession::new(&self.graph, self.alloc));
         HallReply::Done
     }
 
@@ -133,6 +157,7 @@ impl SeatState {
     pub fn abort(&mut self) -> HallReply
         requires { IsConsistent self.old }
         ensures aborts { Aborts (seen_seat self.old) result (seen_seat self.new) }
+        ensures spared { is_short_of_memory result ≡ false }
         ensures graph { self.new.graph ≡ self.old.graph }
         ensures consistent { IsConsistent self.new }
         ensures commits { self.new.commits ≡ self.old.commits }
@@ -148,7 +173,8 @@ impl SeatState {
     pub fn stage(&mut self, step: Step) -> HallReply
         requires consistent { IsConsistent self.old }
         requires named { IsNamedStep step }
-        ensures stages { Stages (graph_of self.old.graph) step (seen_seat self.old) result (seen_seat self.new) }
+        ensures stages { Stages (graph_of self.old.graph) step (seen_seat self.old) result
+            (seen_seat self.new) }
         ensures graph { self.new.graph ≡ self.old.graph }
         ensures consistent { IsConsistent self.new }
         ensures commits { self.new.commits ≡ self.old.commits }
@@ -183,13 +209,15 @@ impl SeatState {
         None
     }
 
-    // Lays the steps of a record on the graph. The draft of the open session, of which the record is clear, is as it was.
-    // An error changes nothing.
+    // Lays the steps of a record on the graph. The draft of the open session, of which the record
+    // is clear, is as it was. An error changes nothing.
     fn lay(&mut self, committed: &[Answered]) -> Result<(), AllocError>
         requires consistent { IsConsistent self.old }
         requires named { All (λ a. IsNamedStep a.step) committed.now }
-        requires clear { IsClear (graph_of self.old.graph) committed.now (seen_seat self.old).session }
-        ensures graph { OnOk result (graph_of self.new.graph ≡ after_steps (graph_of self.old.graph) committed.now) }
+        requires clear { IsClear (graph_of self.old.graph) committed.now
+            (seen_seat self.old).session }
+        ensures graph { OnOk result
+            (graph_of self.new.graph ≡ after_steps (graph_of self.old.graph) committed.now) }
         ensures err { OnErr result (self.new.graph ≡ self.old.graph) }
         ensures seen { seen_seat self.new ≡ seen_seat self.old }
         ensures consistent { IsConsistent self.new }
@@ -206,11 +234,14 @@ impl SeatState {
     fn advance(&mut self, next: &Record) -> Result<(), AllocError>
         requires consistent { IsConsistent self.old }
         requires answers { AreAnswers (graph_of self.old.graph) next.now.steps }
-        requires clear { IsClear (graph_of self.old.graph) next.now.steps (seen_seat self.old).session }
+        requires clear { IsClear (graph_of self.old.graph) next.now.steps
+            (seen_seat self.old).session }
         requires room { self.old.taken < most_cells }
-        ensures graph { OnOk result (graph_of self.new.graph ≡ after_steps (graph_of self.old.graph) next.now.steps) }
+        ensures graph { OnOk result
+            (graph_of self.new.graph ≡ after_steps (graph_of self.old.graph) next.now.steps) }
         ensures seen { OnOk result (seen_seat self.new ≡ one_further (seen_seat self.old)) }
-        ensures err { OnErr result ((self.new.graph ≡ self.old.graph) × (seen_seat self.new ≡ seen_seat self.old)) }
+        ensures err { OnErr result
+            ((self.new.graph ≡ self.old.graph) × (seen_seat self.new ≡ seen_seat self.old)) }
         ensures consistent { IsConsistent self.new }
         ensures commits { self.new.commits ≡ self.old.commits }
     {
@@ -227,7 +258,8 @@ impl SeatState {
         requires consistent { IsConsistent self.old }
         requires answers { AreAnswers (graph_of self.old.graph) next.now.steps }
         requires room { self.old.taken < most_cells }
-        ensures takes { TakesIn (graph_of self.old.graph) next.now (seen_seat self.old) result (seen_seat self.new) }
+        ensures takes { TakesIn (graph_of self.old.graph) next.now (seen_seat self.old) result
+            (seen_seat self.new) }
         ensures rests { (g : ProtectionGraph) (history : List Record) → slice_get history self.old.taken ≡ Some next.now
             → Rests g history self.old → Rests g history self.new }
         ensures consistent { IsConsistent self.new }
@@ -247,10 +279,13 @@ impl SeatState {
     /// Takes in the next record, if there is one, unless it ends the open session.
     pub fn learn(&mut self, records: &[Record]) -> HallReply
         requires consistent { IsConsistent self.old }
-        requires answers { IfSome (slice_get records.now self.old.taken) (λ r. AreAnswers (graph_of self.old.graph) r.steps) }
+        requires answers { IfSome (slice_get records.now self.old.taken)
+            (λ r. AreAnswers (graph_of self.old.graph) r.steps) }
         requires room { length records.now ≤ most_cells }
-        ensures learns { Learns (graph_of self.old.graph) (slice_get records.now self.old.taken) (seen_seat self.old) result (seen_seat self.new) }
-        ensures rests { (g : ProtectionGraph) → Rests g records.now self.old → Rests g records.now self.new }
+        ensures learns { Learns (graph_of self.old.graph) (slice_get records.now self.old.taken)
+            (seen_seat self.old) result (seen_seat self.new) }
+        ensures rests { (g : ProtectionGraph) → Rests g records.now self.old
+            → Rests g records.now self.new }
         ensures consistent { IsConsistent self.new }
         ensures commits { self.new.commits ≡ self.old.commits }
     {
@@ -271,7 +306,8 @@ impl SeatState {
         requires all_taken { self.old.taken ≡ length records.old.items }
         ensures joins { IfSome (seen_seat self.old).session (λ steps.
             Joins cells number records.old.items steps (seen_seat self.old) result (seen_seat self.new) records.new.items) }
-        ensures rests { (g : ProtectionGraph) → Rests g records.old.items self.old → Rests g records.new.items self.new }
+        ensures rests { (g : ProtectionGraph) → Rests g records.old.items self.old
+            → Rests g records.new.items self.new }
         ensures consistent { IsConsistent self.new }
         ensures counted { self.new.commits ≡ count_of number records.new.items }
     {
@@ -299,16 +335,20 @@ impl SeatState {
         HallReply::Put(place)
     }
 
-    /// Puts the open session at the end of the history, or takes in the next record where one is left.
+    /// Puts the open session at the end of the history, or takes in the next record where one is
+    /// left.
     pub fn put(&mut self, number: u32, cells: usize, records: &mut Vec<Record>) -> HallReply
         requires consistent { IsConsistent self.old }
         requires counted { self.old.commits ≡ count_of number records.old.items }
-        requires answers { IfSome (slice_get records.old.items self.old.taken) (λ r. AreAnswers (graph_of self.old.graph) r.steps) }
+        requires answers { IfSome (slice_get records.old.items self.old.taken)
+            (λ r. AreAnswers (graph_of self.old.graph) r.steps) }
         requires room { length records.old.items ≤ cells }
         requires cells { cells ≤ most_cells }
         requires within { self.old.taken ≤ length records.old.items }
-        ensures puts { Puts (graph_of self.old.graph) cells number records.old.items (seen_seat self.old) result (seen_seat self.new) records.new.items }
-        ensures rests { (g : ProtectionGraph) → Rests g records.old.items self.old → Rests g records.new.items self.new }
+        ensures puts { Puts (graph_of self.old.graph) cells number records.old.items
+            (seen_seat self.old) result (seen_seat self.new) records.new.items }
+        ensures rests { (g : ProtectionGraph) → Rests g records.old.items self.old
+            → Rests g records.new.items self.new }
         ensures consistent { IsConsistent self.new }
         ensures counted { self.new.commits ≡ count_of number records.new.items }
     {

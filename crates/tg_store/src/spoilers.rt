@@ -61,9 +61,10 @@ fn is_done(reply: &Reply) -> bool
     }
 }
 
-// The first name that one true answer tells was written and that the session touches.
-fn spoiler_in(answered: &Answered, session: &[Answered]) -> Option<Name>
-    ensures { result ≡ find (touches session.now) (told_writes answered.now.step answered.now.reply) }
+/// The first name that one true answer tells was written and that the session touches.
+pub fn spoiler_in(answered: &Answered, session: &[Answered]) -> Option<Name>
+    ensures { result ≡ find (touches session.now)
+        (told_writes answered.now.step answered.now.reply) }
 {
     if !is_done(&answered.reply) {
         return None;
@@ -120,8 +121,8 @@ fn tells_change(answered: &Answered) -> bool
     }
 }
 
-// How many vertices true answers tell were created.
-fn creation_count(steps: &[Answered]) -> usize
+/// How many vertices true answers tell were created.
+pub fn creation_count(steps: &[Answered]) -> usize
     ensures { result ≡ count_by tells_creation steps.now }
 {
     steps

@@ -1,4 +1,5 @@
-//! What the tests of a hall share: names, steps, halls, and an event or an act with the answer that is wanted.
+//! What the tests of a hall share: names, steps, halls, and an event or an act with the answer that
+//! is wanted.
 ghost use Rattle.tg_graph.specs.Sets.{IsNamed};
 ghost use Rattle.tg_store.specs.Acts.{IsStageableAct};
 ghost use Rattle.tg_store.specs.StepWords.{IsNamedStep};
@@ -23,7 +24,8 @@ pub fn set(rt: &impl Abort, letters: &[u8]) -> Rights
     Rights::from_letters(letters).expect(rt, "the letters of a set")
 }
 
-/// The graph with a vertex for each letter, and an edge for each three letters: source, target and right.
+/// The graph with a vertex for each letter, and an edge for each three letters: source, target and
+/// right.
 pub fn graph(
     rt: &impl Abort,
     alloc: Global,

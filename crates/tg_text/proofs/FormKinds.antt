@@ -223,16 +223,16 @@ header_kinds keyword limit (word ∷ rest) f = header_by (is_word word keyword) 
 -- ---- events
 
 -- no act has a place for a number
-abbrev Numberless : Form → Type 0
+abbrev pub Numberless : Form → Type 0
 Numberless = AllByRecursion (λ place. (word : Word) → is_bad_number place word ≡ false)
 
-no_bad_number : (form : Form) → Numberless form → (words : List Word) → list_any (λ at. is_bad_number at.0 at.1) (zip form words) ≡ false
+pub no_bad_number : (form : Form) → Numberless form → (words : List Word) → list_any (λ at. is_bad_number at.0 at.1) (zip form words) ≡ false
 no_bad_number [] h words = refl
 no_bad_number (place ∷ form) h [] = refl
 no_bad_number (place ∷ form) h (word ∷ words) =
     ap (λ b. b || list_any (λ at. is_bad_number at.0 at.1) (zip form words)) (h.0 word) ∙ no_bad_number form h.1 words
 
-found_numberless : (test : Word → Bool) (forms : List (Word × Form)) → AllByRecursion (λ entry. Numberless entry.1) forms → IfSome (lookup test forms) Numberless
+pub found_numberless : (test : Word → Bool) (forms : List (Word × Form)) → AllByRecursion (λ entry. Numberless entry.1) forms → IfSome (lookup test forms) Numberless
 found_numberless test [] h = tt
 found_numberless test (entry ∷ forms) h = by (test entry.0) (found_numberless test forms h.1)
   where
@@ -246,10 +246,10 @@ alone_numberless = (λ word. refl, tt)
 question_numberless : Numberless question_form
 question_numberless = (λ word. refl, (λ word. refl, (λ word. refl, (λ word. refl, tt))))
 
-two_numberless : Numberless two_form
+pub two_numberless : Numberless two_form
 two_numberless = (λ word. refl, (λ word. refl, (λ word. refl, (λ word. refl, tt))))
 
-three_numberless : Numberless three_form
+pub three_numberless : Numberless three_form
 three_numberless = (λ word. refl, (λ word. refl, (λ word. refl, (λ word. refl, (λ word. refl, tt)))))
 
 acts_numberless : AllByRecursion (λ (entry : Word × Form). Numberless entry.1) act_forms

@@ -1,6 +1,7 @@
 -- Reading line by line gives what the grammar says, and stops at the first line to which it gives nothing.
-use Rattle.std.proofs.Common.{◌≡◌, refl, sym, ◌∙◌, ap, inl, inr, ◌⊎◌, ℕ, suc, ◌+◌, Bool, true, false, cond, ltb, List, [], ◌∷◌, length, Result, Ok, Err, arith}
+use Rattle.std.proofs.Common.{◌≡◌, refl, sym, ◌∙◌, ap, inl, inr, ◌⊎◌, ℕ, zero, suc, ◌+◌, Bool, true, false, cond, ltb, List, [], ◌∷◌, length, take, Some, Result, Ok, Err, arith}
 use Rattle.std.specs.Bool.{MatchBool}
+use Rattle.std.specs.List.{slice_get}
 use Rattle.std.proofs.lemmas.Bool.{ltb-false, le-ltb}
 use Rattle.tg_text.specs.declared.faults.TextKind.{TextKind}
 use Rattle.tg_text.specs.declared.faults.TextKind.TheVariants.{LineTooLong}
@@ -112,3 +113,25 @@ module _ {A : Type 0} (f : ℕ → A → List Word → Result A TextKind) (R : �
 
   pub lines_fault : (n : ℕ) (a : A) (lines : List (List ℕ)) (m : ℕ) (kind : TextKind) → after_lines f n a lines ≡ Err (m, kind) → IsFirstFault R n a lines m
   lines_fault n a lines m kind e = (lines_fault_kind n a lines m kind e).0
+
+  reach : (n : ℕ) (a : A) (lines : List (List ℕ)) (place : ℕ) (line : List ℕ) (before : A) (kind : TextKind) → slice_get lines place ≡ Some line → after_lines f n a (take place lines) ≡ Ok before → after_line (f (n + place)) before line ≡ Err kind
+      → after_lines f n a lines ≡ Err (n + place, kind)
+  reach n a [] place line before kind found read refused = absurd cc
+  reach n a (l ∷ lines) zero line before kind found read refused =
+      let same : l ≡ line = cc in
+      let here : a ≡ before = same_value a before read in
+      let number : n + 0 ≡ n = omega arith in
+      let stopped : after_line (f n) a l ≡ Err kind = (λ i. after_line (f (sym number i)) (here i) (same i)) ∙ refused in
+      step n a l lines (Err kind) stopped ∙ (λ i. failed A (sym number i, kind))
+  reach n a (l ∷ lines) (suc place) line before kind found read refused =
+      let c = on_line_ok n (after_line (f n) a l) (λ c. after_lines f (n + 1) c (take place lines)) before read in
+      let number : n + suc place ≡ n + 1 + place = omega arith in
+      let later = reach (n + 1) c.0 lines place line before kind found c.2 ((λ i. after_line (f (sym number i)) before line) ∙ refused) in
+      step n a l lines (Ok c.0) c.1 ∙ (later ∙ (λ i. failed A (sym number i, kind)))
+
+  -- a text is refused at its first faulty line
+  pub fault_from : (a : A) (lines : List (List ℕ)) (m : ℕ) (kind : TextKind) (first : IsFirstFault R 1 a lines m) → after_line (f m) first.before first.line ≡ Err kind → after_lines f 1 a lines ≡ Err (m, kind)
+  fault_from a lines m kind first refused =
+      let number = first.number in
+      reach 1 a lines first.place first.line first.before kind first.found (lines_from 1 a (take first.place lines) first.before first.earlier) ((λ i. after_line (f (sym number i)) first.before first.line) ∙ refused)
+      ∙ (λ i. failed A (sym number i, kind))

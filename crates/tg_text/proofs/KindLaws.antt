@@ -1,6 +1,6 @@
 -- The kind of a fault is the least one whose condition holds.
 use Rattle.std.proofs.Common.{◌≡◌, refl, sym, ◌∙◌, ap, inl, inr, ℕ, ◌+◌, Bool, true, false, cond, leb, ltb, not, ◌&&◌, List, [], ◌∷◌, ◌++◌, length, Some, Result, Ok, Err}
-use Rattle.std.specs.Prelude.{codes, is_some}
+use Rattle.std.specs.Prelude.{◌⊎◌, codes, is_some}
 use Rattle.std.proofs.lemmas.Bool.{false≢true, and_parts}
 use Rattle.tg_graph.specs.declared.rules.Rule.{Rule}
 use Rattle.tg_graph.specs.Limits.{most_cells, most_seats}
@@ -19,13 +19,13 @@ use Rattle.tg_text.specs.RuleText.{rule_of_words, rule_line, rule_item, rules_te
 use Rattle.tg_text.specs.ScriptText.{ScriptOf, event_of_words, event_item, script_item, with_header, script_text}
 use Rattle.tg_text.specs.GraphGrammar.{IsGraphItem}
 use Rattle.tg_text.specs.RuleGrammar.{IsRuleItem}
-use Rattle.tg_text.specs.ScriptGrammar.{IsScriptItem, IsPartial}
+use Rattle.tg_text.specs.ScriptGrammar.{IsScriptItem, IsPartial, EndsEarly}
 use Rattle.tg_text.specs.Forms.{form_in, rule_forms, event_form, has_other_count, some_word, is_bad_number, is_bad_name, are_bad_rights}
-use Rattle.tg_text.specs.FaultKinds.{of_line, form_condition, graph_condition, rule_condition, one_rule_condition, script_condition, GraphLineKinds, GraphTextKinds, OneRuleKinds, RuleLineKinds, RulesTextKinds, ScriptLineKinds, ScriptTextKinds, NoHeaderIsEndsEarly}
+use Rattle.tg_text.specs.FaultKinds.{IsFaultOf, of_line, form_condition, graph_condition, rule_condition, one_rule_condition, script_condition, GraphLineKinds, GraphTextKinds, OneRuleKinds, RuleLineKinds, RulesTextKinds, ScriptLineKinds, ScriptTextKinds, NoHeaderIsEndsEarly}
 use Rattle.tg_text.proofs.LeastKind.{word_kinds, all_kinds, first_kind, fault_of, exactly_least}
 use Rattle.tg_text.proofs.FormKinds.{same_fault, with_last, rule_kinds, header_kinds, event_kinds}
 use Rattle.tg_text.proofs.GraphKinds.{graph_kinds}
-use Rattle.tg_text.proofs.GrammarLaws.{cases_result, lines_ok, lines_from, lines_fault_kind}
+use Rattle.tg_text.proofs.GrammarLaws.{cases_result, lines_ok, lines_from, lines_fault_kind, fault_from}
 use Rattle.tg_text.proofs.GraphLaws.{graph_item_ok, graph_item_from}
 use Rattle.tg_text.proofs.RuleLaws.{rule_item_ok, rule_item_from}
 use Rattle.tg_text.proofs.ScriptLaws.{State, start, item_is, item_back, partial}
@@ -55,9 +55,12 @@ graph_line_kinds g line kind =
 
 pub graph_text_kinds : GraphTextKinds
 unfolding graph_text
-graph_text_kinds text m kind e =
-    let found = lines_fault_kind (λ n. graph_item) (λ n. IsGraphItem) graph_item_ok graph_item_from 1 empty_graph (lines_of text) m kind e in
-    record { first = found.0; kind_of_line = (graph_line_kinds found.0.before found.0.line kind).0 found.1 }
+graph_text_kinds text m kind = (
+  λ e.
+      let found = lines_fault_kind (λ n. graph_item) (λ n. IsGraphItem) graph_item_ok graph_item_from 1 empty_graph (lines_of text) m kind e in
+      record { first = found.0; kind_of_line = (graph_line_kinds found.0.before found.0.line kind).0 found.1 },
+  λ h. fault_from (λ n. graph_item) (λ n. IsGraphItem) graph_item_ok graph_item_from empty_graph (lines_of text) m kind h.first ((graph_line_kinds h.first.before h.first.line kind).1 h.kind_of_line),
+)
 
 -- ---- rules
 
@@ -84,9 +87,12 @@ one_rule_kinds line kind =
 
 pub rules_text_kinds : RulesTextKinds
 unfolding rules_text
-rules_text_kinds text m kind e =
-    let found = lines_fault_kind rule_item IsRuleItem rule_item_ok rule_item_from 1 [] (lines_of text) m kind e in
-    record { first = found.0; kind_of_line = (rule_line_kinds m found.0.before found.0.line kind).0 found.1 }
+rules_text_kinds text m kind = (
+  λ e.
+      let found = lines_fault_kind rule_item IsRuleItem rule_item_ok rule_item_from 1 [] (lines_of text) m kind e in
+      record { first = found.0; kind_of_line = (rule_line_kinds m found.0.before found.0.line kind).0 found.1 },
+  λ h. fault_from rule_item IsRuleItem rule_item_ok rule_item_from [] (lines_of text) m kind h.first ((rule_line_kinds m h.first.before h.first.line kind).1 h.kind_of_line),
+)
 
 -- ---- scripts
 
@@ -118,9 +124,9 @@ only_no_header end (Nothing, lines) m kind e = sym (ap (λ (x : ℕ × TextKind)
 only_no_header end (Seats seats, lines) m kind e = sym (ap (λ (x : ℕ × TextKind). x.1) (same_pair (end, NoHeader) (m, kind) e))
 only_no_header end (Whole seats cells, lines) m kind e = absurd cc
 
-pub script_text_kinds : ScriptTextKinds
+script_fault : (text : List ℕ) (m : ℕ) (kind : TextKind) → script_text text ≡ Err (m, kind) → IsFaultOf IsScriptItem script_condition start (lines_of text) m kind ⊎ ((kind ≡ NoHeader) × EndsEarly (lines_of text) m)
 unfolding script_text
-script_text_kinds text m kind e =
+script_fault text m kind e =
     elim (cases_result (after_lines script_item 1 start (lines_of text))) [
       | inl p ↦ (
           let end : with_header (length (lines_of text) + 1) p.0 ≡ failed (m, kind) = sym (ap (ended (lines_of text)) p.1) ∙ e in
@@ -142,7 +148,7 @@ ends_early end (Whole seats cells) events h = absurd h
 pub no_header_is_ends_early : NoHeaderIsEndsEarly
 unfolding script_text
 no_header_is_ends_early text m = (
-  λ e. elim (script_text_kinds text m NoHeader e) [
+  λ e. elim (script_fault text m NoHeader e) [
     | inl f ↦ absurd (false≢true (and_parts (not (is_skipped (words_of f.first.line))) false f.kind_of_line.holds).1)
     | inr h ↦ h.1
   ],
@@ -150,4 +156,14 @@ no_header_is_ends_early text m = (
       let lines = lines_of text in
       ap (ended lines) (lines_from script_item IsScriptItem item_is item_back 1 start lines (h.header, h.events) h.read)
       ∙ (ends_early (length lines + 1) h.header h.events h.partial ∙ ap (λ (n : ℕ). failed (n, NoHeader)) (sym h.number)),
+)
+
+pub script_text_kinds : ScriptTextKinds
+unfolding script_text
+script_text_kinds text m kind = (
+  script_fault text m kind,
+  λ h. elim h [
+    | inl f ↦ ap (ended (lines_of text)) (fault_from script_item IsScriptItem item_is item_back start (lines_of text) m kind f.first ((script_line_kinds m f.first.before f.first.line kind).1 f.kind_of_line))
+    | inr (none, early) ↦ (no_header_is_ends_early text m).1 early ∙ ap (λ (k : TextKind). failed (m, k)) (sym none)
+  ],
 )

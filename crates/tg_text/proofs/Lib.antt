@@ -8,6 +8,7 @@ pub mod LeastKind
 pub mod FormKinds
 pub mod GraphKinds
 pub mod KindLaws
+pub mod KindTables
 pub mod LineCuts
 pub mod WordCuts
 pub mod NumberLaws

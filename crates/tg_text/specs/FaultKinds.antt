@@ -1,5 +1,5 @@
 -- The kind of a fault is the least one whose condition holds. Each condition is said by itself, of a line and of what the earlier lines made.
-use Rattle.std.specs.Prelude.{◌≡◌, ◌↔◌, ◌⊎◌, ℕ, ◌<◌, nat_lt, nat_le, not, ◌&&◌, ◌||◌, Bool, true, false, List, [], length, codes, is_some, slice_get, IsTrue, IsFalse, Option, Err}
+use Rattle.std.specs.Prelude.{◌∷◌, ◌≡◌, ◌↔◌, ◌⊎◌, ℕ, ◌<◌, nat_lt, nat_le, not, ◌&&◌, ◌||◌, Bool, true, false, List, [], length, codes, is_some, slice_get, IsTrue, IsFalse, Option, Err, Contains}
 use Rattle.std.specs.Option.{option_map_or}
 use Rattle.tg_graph.specs.Sets.{is_empty_set}
 use Rattle.tg_graph.specs.Additions.{label_between}
@@ -115,8 +115,9 @@ pub record IsFaultOf {A : Type 0} (item : ℕ → A → List Word → A → Type
 abbrev pub GraphLineKinds : Type 0
 GraphLineKinds = (g : ProtectionGraph) (line : List ℕ) (kind : TextKind) → (graph_line g line ≡ Err kind) ↔ IsLeastKind (of_line (graph_condition g) line) kind
 
+-- and a text exactly with its first faulty line and the least kind of that line
 abbrev pub GraphTextKinds : Type 0
-GraphTextKinds = (text : List ℕ) (m : ℕ) (kind : TextKind) → graph_text text ≡ Err (m, kind) → IsFaultOf (λ n. IsGraphItem) graph_condition empty_graph (lines_of text) m kind
+GraphTextKinds = (text : List ℕ) (m : ℕ) (kind : TextKind) → (graph_text text ≡ Err (m, kind)) ↔ IsFaultOf (λ n. IsGraphItem) graph_condition empty_graph (lines_of text) m kind
 
 -- a line that is to be one rule is refused exactly with the least kind
 abbrev pub OneRuleKinds : Type 0
@@ -126,17 +127,45 @@ OneRuleKinds = (line : List ℕ) (kind : TextKind) → (rule_of_line line ≡ Er
 abbrev pub RuleLineKinds : Type 0
 RuleLineKinds = (n : ℕ) (rules : List RuleLine) (line : List ℕ) (kind : TextKind) → (after_line (rule_item n) rules line ≡ Err kind) ↔ IsLeastKind (of_line (rule_condition rules) line) kind
 
+-- and a text exactly with its first faulty line and the least kind of that line
 abbrev pub RulesTextKinds : Type 0
-RulesTextKinds = (text : List ℕ) (m : ℕ) (kind : TextKind) → rules_text text ≡ Err (m, kind) → IsFaultOf IsRuleItem rule_condition [] (lines_of text) m kind
+RulesTextKinds = (text : List ℕ) (m : ℕ) (kind : TextKind) → (rules_text text ≡ Err (m, kind)) ↔ IsFaultOf IsRuleItem rule_condition [] (lines_of text) m kind
 
 -- a line of a script is refused exactly with the least kind
 abbrev pub ScriptLineKinds : Type 0
 ScriptLineKinds = (n : ℕ) (made : Header × List ScriptLine) (line : List ℕ) (kind : TextKind) → (after_line (script_item n) made line ≡ Err kind) ↔ IsLeastKind (of_line (script_condition made) line) kind
 
--- a fault is that of a line, or of a text that ends early
+-- and a text exactly with its first faulty line and the least kind of that line, or where it ends early
 abbrev pub ScriptTextKinds : Type 0
-ScriptTextKinds = (text : List ℕ) (m : ℕ) (kind : TextKind) → script_text text ≡ Err (m, kind) → IsFaultOf IsScriptItem script_condition (Nothing, []) (lines_of text) m kind ⊎ ((kind ≡ NoHeader) × EndsEarly (lines_of text) m)
+ScriptTextKinds = (text : List ℕ) (m : ℕ) (kind : TextKind) → (script_text text ≡ Err (m, kind)) ↔ (IsFaultOf IsScriptItem script_condition (Nothing, []) (lines_of text) m kind ⊎ ((kind ≡ NoHeader) × EndsEarly (lines_of text) m))
 
 -- `NoHeader` comes exactly where the text ends before both header lines
 abbrev pub NoHeaderIsEndsEarly : Type 0
 NoHeaderIsEndsEarly = (text : List ℕ) (m : ℕ) → (script_text text ≡ Err (m, NoHeader)) ↔ EndsEarly (lines_of text) m
+
+-- ---- the kinds that each text has
+
+abbrev pub graph_kinds : List TextKind
+graph_kinds = LineTooLong ∷ BadWord ∷ WordCount ∷ BadName ∷ BadRights ∷ DuplicateVertex ∷ TooManyVertices ∷ UnknownVertex ∷ DuplicateEdge ∷ []
+
+abbrev pub one_rule_kinds : List TextKind
+one_rule_kinds = LineTooLong ∷ BadWord ∷ WordCount ∷ BadName ∷ BadRights ∷ []
+
+abbrev pub rules_kinds : List TextKind
+rules_kinds = LineTooLong ∷ BadWord ∷ WordCount ∷ BadName ∷ BadRights ∷ TooMany ∷ []
+
+abbrev pub script_kinds : List TextKind
+script_kinds = LineTooLong ∷ BadWord ∷ WordCount ∷ BadNumber ∷ BadName ∷ BadRights ∷ TooMany ∷ NoHeader ∷ []
+
+-- a text has no fault of another kind
+abbrev pub GraphHasTheseKinds : Type 0
+GraphHasTheseKinds = (text : List ℕ) (m : ℕ) (kind : TextKind) → graph_text text ≡ Err (m, kind) → Contains graph_kinds kind
+
+abbrev pub OneRuleHasTheseKinds : Type 0
+OneRuleHasTheseKinds = (line : List ℕ) (kind : TextKind) → rule_of_line line ≡ Err kind → Contains one_rule_kinds kind
+
+abbrev pub RulesHaveTheseKinds : Type 0
+RulesHaveTheseKinds = (text : List ℕ) (m : ℕ) (kind : TextKind) → rules_text text ≡ Err (m, kind) → Contains rules_kinds kind
+
+abbrev pub ScriptHasTheseKinds : Type 0
+ScriptHasTheseKinds = (text : List ℕ) (m : ℕ) (kind : TextKind) → script_text text ≡ Err (m, kind) → Contains script_kinds kind

@@ -9,9 +9,16 @@ use crate::spelling::{put, put_name, put_rights};
 use std::alloc::{AllocError, Global};
 use tg_graph::{Graph, Name, Rights};
 
+// As many bytes as the line of a vertex has at most, with its line feed.
+const LONGEST_VERTEX_LINE: usize = 24;
+
+// As many bytes as the line of an edge has at most, with its line feed.
+const LONGEST_EDGE_LINE: usize = 45;
+
 /// The names of the vertices of a graph in name order, each once. The error is want of memory.
 pub fn names_in_order(alloc: Global, graph: &Graph) -> Result<Vec<Name>, AllocError>
-    ensures names { IfOk result (λ names. names.items ≡ in_name_order (graph_of graph.now).vertices) }
+    ensures names { IfOk result
+        (λ names. names.items ≡ in_name_order (graph_of graph.now).vertices) }
     ensures graph { IsGraph graph.now }
 {
     let mut names = Vec::with_capacity(alloc, graph.len())?;
@@ -36,7 +43,7 @@ fn end_line(text: &mut Vec<u8>)
 fn append_vertex(text: &mut Vec<u8>, name: Name) -> Result<(), AllocError>
     ensures { OnOk result (text.new.items ≡ text.old.items ++ vertex_line name) }
 {
-    text.reserve(24)?;
+    text.reserve(LONGEST_VERTEX_LINE)?;
     put(text, b"vertex");
     put_name(text, name);
     end_line(text);
@@ -59,7 +66,7 @@ fn append_edge(text: &mut Vec<u8>, source: Name, edge: (Name, Rights)) -> Result
     ensures { OnOk result (text.new.items ≡ text.old.items ++ edge_line source edge.0 edge.1) }
 {
     let (target, label) = edge;
-    text.reserve(46)?;
+    text.reserve(LONGEST_EDGE_LINE)?;
     put(text, b"edge");
     put_name(text, source);
     put_name(text, target);
@@ -97,8 +104,8 @@ fn append_rows(text: &mut Vec<u8>, graph: &Graph, sources: &[Name]) -> Result<()
     Ok(())
 }
 
-/// The canonical text of a graph: its vertices in name order, then its edges in order of source, then target.
-/// The error is want of memory.
+/// The canonical text of a graph: its vertices in name order, then its edges in order of source,
+/// then target. The error is want of memory.
 pub fn write_graph(alloc: Global, graph: &Graph) -> Result<Vec<u8>, AllocError>
     ensures { IfOk result (λ text. text.items ≡ canonical_text (graph_of graph.now)) }
 {

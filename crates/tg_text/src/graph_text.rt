@@ -43,7 +43,8 @@ fn add_edge(graph: &mut Graph, x: Name, y: Name, rights: Rights) -> Result<(), L
 
 #[tactic(auto, unfolding(crate::specs::GraphText::vertex_item))]
 fn add_vertex_line(graph: &mut Graph, words: &[u8]) -> Result<(), LineFault>
-    ensures { Makes (vertex_item (graph_of graph.old) (words_of words.now)) result (graph_of graph.new) }
+    ensures { Makes (vertex_item (graph_of graph.old) (words_of words.now)) result
+        (graph_of graph.new) }
 {
     let word = one_word(words)?;
     let name = name_at(word)?;
@@ -53,7 +54,8 @@ fn add_vertex_line(graph: &mut Graph, words: &[u8]) -> Result<(), LineFault>
 
 #[tactic(auto, unfolding(crate::specs::GraphText::edge_item))]
 fn add_edge_line(graph: &mut Graph, words: &[u8]) -> Result<(), LineFault>
-    ensures { Makes (edge_item (graph_of graph.old) (words_of words.now)) result (graph_of graph.new) }
+    ensures { Makes (edge_item (graph_of graph.old) (words_of words.now)) result
+        (graph_of graph.new) }
 {
     let (source, target, letters) = three_words(words)?;
     let x = name_at(source)?;
@@ -66,7 +68,8 @@ fn add_edge_line(graph: &mut Graph, words: &[u8]) -> Result<(), LineFault>
 // Adds what the words of a line that is not skipped say.
 #[tactic(auto, unfolding(crate::specs::GraphText::graph_item))]
 fn add_item(graph: &mut Graph, words: &[u8]) -> Result<(), LineFault>
-    ensures { Makes (graph_item (graph_of graph.old) (words_of words.now)) result (graph_of graph.new) }
+    ensures { Makes (graph_item (graph_of graph.old) (words_of words.now)) result
+        (graph_of graph.new) }
 {
     match cut_word(words) {
         Some((word, rest)) if word == b"vertex".as_slice() => add_vertex_line(graph, rest)?,

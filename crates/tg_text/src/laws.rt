@@ -1,12 +1,12 @@
-//! Laws of the texts: what the readers accept, as grammars that know of no fault, and what is read of
-//! that which was written. Each function does nothing: its contract is the law.
+//! Laws of the texts: what the readers accept, as grammars that know of no fault, and what is read
+//! of that which was written. Each function does nothing: its contract is the law.
 ghost use Rattle.tg_text.specs.CanonicalLaws.{EqualGraphsHaveOneText, NamesHaveOneOrder};
 ghost use Rattle.tg_text.specs.RoundTrips.{GraphsAreReadAsWritten, ListsAreReadAsWritten, RulesAreReadAsWritten};
 ghost use Rattle.tg_text.specs.GraphGrammar.{GraphTextsAreThose, GraphFaultsAreFirst};
 ghost use Rattle.tg_text.specs.RuleGrammar.{RuleLinesAreThose, RulesTextsAreThose, RuleFaultsAreFirst};
 ghost use Rattle.tg_text.specs.ScriptGrammar.{ScriptTextsAreThose, ScriptFaultsAreFirst};
 ghost use Rattle.tg_text.specs.WordLaws.{LinesExactly, BlanksExactly, WordsExactly, NumberWordsExactly, NumbersAreDecimal};
-ghost use Rattle.tg_text.specs.FaultKinds.{GraphLineKinds, GraphTextKinds, OneRuleKinds, RuleLineKinds, RulesTextKinds, ScriptLineKinds, ScriptTextKinds, NoHeaderIsEndsEarly};
+ghost use Rattle.tg_text.specs.FaultKinds.{GraphLineKinds, GraphTextKinds, OneRuleKinds, RuleLineKinds, RulesTextKinds, ScriptLineKinds, ScriptTextKinds, NoHeaderIsEndsEarly, GraphHasTheseKinds, OneRuleHasTheseKinds, RulesHaveTheseKinds, ScriptHasTheseKinds};
 
 /// A text has a graph exactly where the grammar gives it that graph, and a fault names the
 /// first line to which the grammar gives none.
@@ -31,47 +31,54 @@ pub fn script_grammar()
     ensures faults { ScriptFaultsAreFirst }
 {}
 
-/// A line of a graph is refused exactly with the least kind whose condition holds in it, and the fault of a
-/// text has the least kind of its line.
+/// A line of a graph is refused exactly with the least kind whose condition holds in it, and a text
+/// exactly with its first faulty line and the least kind of that line.
 pub fn graph_faults_have_the_least_kind()
     ensures lines { GraphLineKinds }
     ensures texts { GraphTextKinds }
+    ensures kinds { GraphHasTheseKinds }
 {}
 
-/// A line that is to be one rule, and a line of rules, is refused exactly with the least kind whose condition
-/// holds in it, and the fault of a text has the least kind of its line.
+/// A line that is to be one rule, and a line of rules, is refused exactly with the least kind whose
+/// condition holds in it, and a text exactly with its first faulty line and the least kind of that
+/// line.
 pub fn rule_faults_have_the_least_kind()
     ensures one { OneRuleKinds }
+    ensures one_kinds { OneRuleHasTheseKinds }
     ensures lines { RuleLineKinds }
     ensures texts { RulesTextKinds }
+    ensures kinds { RulesHaveTheseKinds }
 {}
 
-/// A line of a script is refused exactly with the least kind whose condition holds in it, and the fault of a
-/// text has the least kind of its line, or comes of a text that ends early.
+/// A line of a script is refused exactly with the least kind whose condition holds in it, and a
+/// text exactly with its first faulty line and the least kind of that line, or where it ends early.
 pub fn script_faults_have_the_least_kind()
     ensures lines { ScriptLineKinds }
     ensures texts { ScriptTextKinds }
+    ensures kinds { ScriptHasTheseKinds }
 {}
 
-/// `NoHeader` comes exactly where the text of a script ends before both header lines, on the line behind the last.
+/// `NoHeader` comes exactly where the text of a script ends before both header lines, on the line
+/// behind the last.
 pub fn no_header_is_an_early_end()
     ensures { NoHeaderIsEndsEarly }
 {}
 
-/// The lines of a text are those that give it with a line feed behind each, but that the last one, if it is not
-/// empty, may lack its own; and no line has a line feed in it.
+/// The lines of a text are those that give it with a line feed behind each, but that the last one,
+/// if it is not empty, may lack its own; and no line has a line feed in it.
 pub fn lines_are_exact()
     ensures { LinesExactly }
 {}
 
-/// The words of a line are its longest runs without blanks, in turn; a blank is a space, a tab or a carriage
-/// return.
+/// The words of a line are its longest runs without blanks, in turn; a blank is a space, a tab or a
+/// carriage return.
 pub fn words_are_exact()
     ensures blanks { BlanksExactly }
     ensures words { WordsExactly }
 {}
 
-/// A number is one to four digits, the first not 0, and its value is the one that they write in decimal.
+/// A number is one to four digits, the first not 0, and its value is the one that they write in
+/// decimal.
 pub fn numbers_are_exact()
     ensures words { NumberWordsExactly }
     ensures values { NumbersAreDecimal }
@@ -97,7 +104,8 @@ pub fn lists_are_read_as_written()
     ensures { ListsAreReadAsWritten }
 {}
 
-/// A graph of at most `MOST_VERTICES` vertices that was written is read as it was, its vertices in name order.
+/// A graph of at most `MOST_VERTICES` vertices that was written is read as it was, its vertices in
+/// name order.
 pub fn graphs_are_read_as_written()
     ensures { GraphsAreReadAsWritten }
 {}

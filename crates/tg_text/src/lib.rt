@@ -2,6 +2,8 @@
 #![tactic(auto)]
 
 mod canonical;
+#[cfg(test)]
+mod fault_tests;
 mod faults;
 mod graph_text;
 pub mod laws;
@@ -13,6 +15,8 @@ mod reading;
 mod rule_text;
 mod script_text;
 mod spelling;
+#[cfg(test)]
+mod test_helpers;
 #[cfg(test)]
 mod tests;
 mod words;

@@ -9,8 +9,8 @@ use crate::limits::MOST_LINE_BYTES;
 
 /// The first line of a text without its line feed, and what stands behind it.
 ///
-/// A text that is not empty has a first line, and each cut makes it shorter, so a loop that goes on with what
-/// stands behind the line meets every line in turn. No memory is taken.
+/// A text that is not empty has a first line, and each cut makes it shorter, so a loop that goes on
+/// with what stands behind the line meets every line in turn. No memory is taken.
 pub fn cut_line(text: &[u8]) -> (&[u8], &[u8])
     requires { 0 < length text.now }
     ensures cut { lines_of text.now ≡ result.0.now ∷ lines_of result.1.now }
@@ -60,11 +60,13 @@ fn word_len(bytes: &[u8]) -> usize
     bytes.len()
 }
 
-/// The first word of a line, and what stands behind it, which is shorter; nothing where the line has no word.
+/// The first word of a line, and what stands behind it, which is shorter; nothing where the line
+/// has no word.
 ///
 /// No memory is taken.
 pub fn cut_word(bytes: &[u8]) -> Option<(&[u8], &[u8])>
-    ensures cut { MatchOption result (words_of bytes.now ≡ []) (λ cut. words_of bytes.now ≡ cut.0.now ∷ words_of cut.1.now) }
+    ensures cut { MatchOption result (words_of bytes.now ≡ [])
+        (λ cut. words_of bytes.now ≡ cut.0.now ∷ words_of cut.1.now) }
     ensures shorter { IfSome result (λ cut. length cut.1.now < length bytes.now) }
 {
     let start = blanks(bytes);

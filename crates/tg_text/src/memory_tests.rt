@@ -1,5 +1,5 @@
-// Each test passes whichever one request for memory is refused: `rt try --test --fail-alloc N -- memory_tests`, for N from
-// 1 on. Where a call was refused memory, its second try has it.
+// Each test passes whichever one request for memory is refused: `rt try --test --fail-alloc N --
+// memory_tests`, for N from 1 on. Where a call was refused memory, its second try has it.
 use crate::{
     TextFault, append_number, append_reply, read_graph, read_rule, read_rules, read_script,
     write_graph, write_reply, write_rule,
@@ -28,7 +28,7 @@ fn graph(rt: &impl Abort, alloc: Global) -> Result<Graph, TextFault> {
 fn written(alloc: Global, graph: &Graph) -> Result<Vec<u8>, AllocError> {
     match write_graph(alloc, graph) {
         Ok(text) => Ok(text),
-        Err(_) => write_graph(alloc, graph),
+        Err(AllocError) => write_graph(alloc, graph),
     }
 }
 
@@ -52,7 +52,7 @@ fn refused_rules(rt: HostRuntime) -> Result<(), Fail> {
     assert!(rt; rules.len() == 1 && read_rule(RULE) == Ok(rules[0].rule));
     let text = match write_rule(rt.alloc(), &rules[0].rule) {
         Ok(text) => text,
-        Err(_) => write_rule(rt.alloc(), &rules[0].rule)?,
+        Err(AllocError) => write_rule(rt.alloc(), &rules[0].rule)?,
     };
     assert!(rt; text.as_slice() == RULE);
     Ok(())
@@ -91,7 +91,7 @@ fn refused_text(rt: HostRuntime) -> Result<(), Fail> {
 fn refused_reply(rt: HostRuntime) -> Result<(), Fail> {
     let text = match write_reply(rt.alloc(), &Reply::Yes) {
         Ok(text) => text,
-        Err(_) => write_reply(rt.alloc(), &Reply::Yes)?,
+        Err(AllocError) => write_reply(rt.alloc(), &Reply::Yes)?,
     };
     assert!(rt; text.as_slice() == b"yes".as_slice());
     Ok(())

@@ -23,13 +23,15 @@ pub(crate) trait Items {
     /// Adds what the words of a line that is not skipped say.
     fn add(&mut self, line: usize, words: &[u8]) -> Result<(), LineFault>
         requires { IsSound self.old }
-        ensures made { Makes (item line (made self.old) (words_of words.now)) result (made self.new) }
+        ensures made { Makes (item line (made self.old) (words_of words.now)) result
+            (made self.new) }
         ensures sound { OnOk result (IsSound self.new) };
 }
 
 fn add_line<T: Items>(items: &mut T, line: usize, bytes: &[u8]) -> Result<(), LineFault>
     requires { T.IsSound items.old }
-    ensures made { Makes (after_line (T.item line) (T.made items.old) bytes.now) result (T.made items.new) }
+    ensures made { Makes (after_line (T.item line) (T.made items.old) bytes.now) result
+        (T.made items.new) }
     ensures sound { OnOk result (T.IsSound items.new) }
 {
     let Some(words) = content(bytes)? else {
@@ -39,11 +41,12 @@ fn add_line<T: Items>(items: &mut T, line: usize, bytes: &[u8]) -> Result<(), Li
     Ok(())
 }
 
-/// Adds what the lines of a text say, each in turn, and gives the number of the lines. The error is the
-/// first fault, with its line.
+/// Adds what the lines of a text say, each in turn, and gives the number of the lines. The error is
+/// the first fault, with its line.
 pub(crate) fn read_lines<T: Items>(items: &mut T, text: &[u8]) -> Result<usize, TextFault>
     requires { T.IsSound items.old }
-    ensures made { MakesAll (after_lines T.item 1 (T.made items.old) (lines_of text.now)) (length (lines_of text.now)) result (T.made items.new) }
+    ensures made { MakesAll (after_lines T.item 1 (T.made items.old) (lines_of text.now))
+        (length (lines_of text.now)) result (T.made items.new) }
     ensures sound { OnOk result (T.IsSound items.new) }
     ensures few { IfOk result (λ count. count ≤ length text.now) }
 {

@@ -78,8 +78,8 @@ pub(crate) fn rule_of_words(bytes: &[u8]) -> Result<Rule, TextKind>
 }
 
 /// The rule that a line without its line feed writes, or the first thing wrong with the line:
-/// `LineTooLong` over `MOST_LINE_BYTES` bytes, `BadWord` where the first word names no rule, `WordCount`, `BadName`,
-/// `BadRights`.
+/// `LineTooLong` over `MOST_LINE_BYTES` bytes, `BadWord` where the first word names no rule,
+/// `WordCount`, `BadName`, `BadRights`.
 ///
 /// A line that a text would skip is a `BadWord`. No memory is taken.
 pub fn read_rule(line: &[u8]) -> Result<Rule, TextKind>
@@ -96,7 +96,8 @@ pub fn read_rule(line: &[u8]) -> Result<Rule, TextKind>
 #[tactic(auto, unfolding(crate::specs::RuleText::rule_line, crate::specs::RuleText::rule_item))]
 fn add_rule(rules: &mut Vec<RuleLine>, line: usize, words: &[u8]) -> Result<(), LineFault>
     requires { AreNamedLines rules.old.items }
-    ensures made { Makes (rule_item line rules.old.items (words_of words.now)) result rules.new.items }
+    ensures made { Makes (rule_item line rules.old.items (words_of words.now)) result
+        rules.new.items }
     ensures named { OnOk result (AreNamedLines rules.new.items) }
 {
     let rule = rule_of_words(words)?;
@@ -124,8 +125,9 @@ impl Items for Vec<RuleLine> {
 #[tactic(auto, unfolding(crate::specs::RuleText::rules_text))]
 /// The rules of a text, with their lines.
 ///
-/// `At` names the first faulty line. Its kind is one of those of `read_rule`, or `TooMany` where there
-/// are `MOST_ENTRIES` rules already. `Memory` is answered where a growth was refused, whatever stands further on.
+/// `At` names the first faulty line. Its kind is one of those of `read_rule`, or `TooMany` where
+/// there are `MOST_ENTRIES` rules already. `Memory` is answered where a growth was refused,
+/// whatever stands further on.
 pub fn read_rules(alloc: Global, text: &[u8]) -> Result<Vec<RuleLine>, TextFault>
     ensures value { Reads (λ rules. rules.items) result (rules_text text.now) }
     ensures named { IfOk result (λ rules. AreNamedLines rules.items) }

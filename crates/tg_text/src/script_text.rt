@@ -134,7 +134,8 @@ fn push_event(
 ) -> Result<(), LineFault>
     requires named { IsNamedAct act }
     requires all_named { AreNamedEvents lines.old.items }
-    ensures made { Makes (with_item most_entries lines.old.items (Ok (record { line = line; seat = seat; act = act }))) result lines.new.items }
+    ensures made { Makes (with_item most_entries lines.old.items
+        (Ok (record { line = line; seat = seat; act = act }))) result lines.new.items }
     ensures named { OnOk result (AreNamedEvents lines.new.items) }
 {
     if lines.len() >= MOST_ENTRIES {
@@ -162,7 +163,8 @@ fn add_event(
     words: &[u8],
 ) -> Result<(), LineFault>
     requires { AreNamedEvents lines.old.items }
-    ensures made { Makes (event_item line seats lines.old.items (words_of words.now)) result lines.new.items }
+    ensures made { Makes (event_item line seats lines.old.items (words_of words.now)) result
+        lines.new.items }
     ensures named { OnOk result (AreNamedEvents lines.new.items) }
 {
     match event_of_words(line, seats, words) {
@@ -224,9 +226,9 @@ impl Items for ScriptItems {
 /// The script of a text.
 ///
 /// `At` names the first faulty line, and the first of these that it has: `LineTooLong`, `BadWord`,
-/// `WordCount`, `BadNumber`, `BadName`, `BadRights`, `TooMany` where there are `MOST_ENTRIES` events already.
-/// Where the text ends before both header lines it is `NoHeader`, on the line behind the last.
-/// `Memory` is answered where a growth was refused, whatever stands further on.
+/// `WordCount`, `BadNumber`, `BadName`, `BadRights`, `TooMany` where there are `MOST_ENTRIES`
+/// events already. Where the text ends before both header lines it is `NoHeader`, on the line
+/// behind the last. `Memory` is answered where a growth was refused, whatever stands further on.
 pub fn read_script(alloc: Global, text: &[u8]) -> Result<Script, TextFault>
     ensures value { Reads script_of result (script_text text.now) }
     ensures named { IfOk result (λ script. AreNamedEvents script.lines.items) }

@@ -16,6 +16,15 @@ pub const LONGEST_REPLY: usize = 32;
 /// As many digits as a number has at most.
 pub const LONGEST_NUMBER: usize = 20;
 
+// As many bytes as a name has at most, with the space before it.
+const LONGEST_NAME: usize = 17;
+
+// As many bytes as a set of rights has at most, with the space before it.
+const LONGEST_RIGHTS: usize = 6;
+
+// As many bytes as the words of a refusal have at most, with the space before them.
+const LONGEST_REFUSAL: usize = 25;
+
 // Appends bytes for which there is room.
 pub(crate) fn put(text: &mut Vec<u8>, bytes: &[u8])
     requires { vec_len text.old + length bytes.now ≤ vec_capacity text.old }
@@ -29,9 +38,9 @@ pub(crate) fn put(text: &mut Vec<u8>, bytes: &[u8])
 
 // Appends a space and a name.
 pub(crate) fn put_name(text: &mut Vec<u8>, name: Name)
-    requires { vec_len text.old + 17 ≤ vec_capacity text.old }
+    requires { vec_len text.old + LONGEST_NAME ≤ vec_capacity text.old }
     ensures items { text.new.items ≡ text.old.items ++ 32 ∷ name }
-    ensures len { vec_len text.new ≤ vec_len text.old + 17 }
+    ensures len { vec_len text.new ≤ vec_len text.old + LONGEST_NAME }
     ensures capacity { vec_capacity text.old ≤ vec_capacity text.new }
 {
     text.push_reserved(b' ');
@@ -54,9 +63,9 @@ fn put_letters(text: &mut Vec<u8>, set: Rights, rights: &[Right])
 
 // Appends a space and the letters of a set of rights.
 pub(crate) fn put_rights(text: &mut Vec<u8>, rights: Rights)
-    requires { vec_len text.old + 6 ≤ vec_capacity text.old }
+    requires { vec_len text.old + LONGEST_RIGHTS ≤ vec_capacity text.old }
     ensures items { text.new.items ≡ text.old.items ++ 32 ∷ rights_text rights }
-    ensures len { vec_len text.new ≤ vec_len text.old + 6 }
+    ensures len { vec_len text.new ≤ vec_len text.old + LONGEST_RIGHTS }
     ensures capacity { vec_capacity text.old ≤ vec_capacity text.new }
 {
     text.push_reserved(b' ');
@@ -71,8 +80,8 @@ pub(crate) fn put_rights(text: &mut Vec<u8>, rights: Rights)
     }
 }
 
-/// Appends the line of a rule, without a line feed. It fails only where there is no room and memory is refused,
-/// and the text then stays as it was.
+/// Appends the line of a rule, without a line feed. It fails only where there is no room and memory
+/// is refused, and the text then stays as it was.
 pub fn append_rule(text: &mut Vec<u8>, rule: &Rule) -> Result<(), AllocError>
     ensures appended { OnOk result (text.new.items ≡ text.old.items ++ rule_text rule.now) }
     ensures kept { OnErr result (text.new.items ≡ text.old.items) }
@@ -112,7 +121,7 @@ pub fn append_rule(text: &mut Vec<u8>, rule: &Rule) -> Result<(), AllocError>
 
 // Appends a space and the words of a refusal.
 fn put_refusal(text: &mut Vec<u8>, refusal: Refusal)
-    requires { vec_len text.old + 25 ≤ vec_capacity text.old }
+    requires { vec_len text.old + LONGEST_REFUSAL ≤ vec_capacity text.old }
     ensures { text.new.items ≡ text.old.items ++ 32 ∷ spaced (refusal_words refusal) }
 {
     match refusal {
@@ -135,8 +144,8 @@ fn put_refusal(text: &mut Vec<u8>, refusal: Refusal)
     }
 }
 
-/// Appends the text of a reply. It fails only where there is no room and memory is refused, and the text then
-/// stays as it was.
+/// Appends the text of a reply. It fails only where there is no room and memory is refused, and the
+/// text then stays as it was.
 pub fn append_reply(text: &mut Vec<u8>, reply: &Reply) -> Result<(), AllocError>
     ensures appended { OnOk result (text.new.items ≡ text.old.items ++ reply_text reply.now) }
     ensures kept { OnErr result (text.new.items ≡ text.old.items) }
@@ -168,8 +177,8 @@ fn put_number(text: &mut Vec<u8>, number: usize)
     text.push_reserved(b'0' + (number % 10) as u8);
 }
 
-/// Appends a number in decimal, without leading zeros. It fails only where there is no room and memory is
-/// refused, and the text then stays as it was.
+/// Appends a number in decimal, without leading zeros. It fails only where there is no room and
+/// memory is refused, and the text then stays as it was.
 pub fn append_number(text: &mut Vec<u8>, number: usize) -> Result<(), AllocError>
     ensures appended { OnOk result (text.new.items ≡ text.old.items ++ decimal number) }
     ensures kept { OnErr result (text.new.items ≡ text.old.items) }

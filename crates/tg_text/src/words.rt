@@ -50,7 +50,8 @@ pub(crate) fn three_words(bytes: &[u8]) -> Result<(&[u8], &[u8], &[u8]), TextKin
 }
 
 pub(crate) fn four_words(bytes: &[u8]) -> Result<(&[u8], &[u8], &[u8], &[u8]), TextKind>
-    ensures { Sees (λ w. (w.0.now, w.1.now, w.2.now, w.3.now)) result (four_words (words_of bytes.now)) }
+    ensures { Sees (λ w. (w.0.now, w.1.now, w.2.now, w.3.now)) result
+        (four_words (words_of bytes.now)) }
 {
     let (first, rest) = first_word(bytes)?;
     let (second, third, fourth) = three_words(rest)?;

@@ -1,5 +1,8 @@
+// What is written, where there is memory enough.
+use crate::test_helpers::rules;
 use crate::{
-    append_number, names_in_order, read_graph, read_rule, write_graph, write_reply, write_rule,
+    append_number, append_reply, append_rule, names_in_order, read_graph, write_graph, write_reply,
+    write_rule,
 };
 use std::alloc::{AllocError, Global};
 use std::process::Abort;
@@ -9,16 +12,11 @@ use tg_graph::{Name, Refusal, Reply, Right, Rights};
 fn replies(rt: &impl Abort, alloc: Global, reply: Reply, text: &[u8]) -> Result<(), AllocError> {
     let written = write_reply(alloc, &reply)?;
     assert!(rt; written.as_slice() == text);
+    let mut behind = Vec::from_slice(alloc, text)?;
+    append_reply(&mut behind, &reply)?;
+    assert!(rt; behind.len() == 2 * text.len());
+    assert!(rt; behind.ends_with(text));
     Ok(())
-}
-
-fn refuses(
-    rt: &impl Abort,
-    alloc: Global,
-    refusal: Refusal,
-    text: &[u8],
-) -> Result<(), AllocError> {
-    replies(rt, alloc, Reply::Refused(refusal), text)
 }
 
 #[test]
@@ -31,50 +29,77 @@ fn replies_without_a_reason(rt: HostRuntime) -> Result<(), Fail> {
 
 #[test]
 fn refusals_with_a_name_or_rights(rt: HostRuntime) -> Result<(), Fail> {
+    let name = Name::parse(b"n")?;
+    let unknown = Reply::Refused(Refusal::Unknown(name));
+    replies(&rt, rt.alloc(), unknown, b"refused unknown n")?;
+    let taken = Reply::Refused(Refusal::Taken(name));
+    replies(&rt, rt.alloc(), taken, b"refused taken n")?;
     let tw = Rights::of(Right::T).union(Rights::of(Right::W));
-    refuses(
-        &rt,
-        rt.alloc(),
-        Refusal::Unknown(Name::parse(b"n")?),
-        b"refused unknown n",
-    )?;
-    refuses(
-        &rt,
-        rt.alloc(),
-        Refusal::Taken(Name::parse(b"n")?),
-        b"refused taken n",
-    )?;
-    refuses(
-        &rt,
-        rt.alloc(),
-        Refusal::NotHeld(tw),
-        b"refused not-held tw",
-    )?;
+    let lacking = Reply::Refused(Refusal::NotHeld(tw));
+    replies(&rt, rt.alloc(), lacking, b"refused not-held tw")?;
     Ok(())
 }
 
 #[test]
 fn other_refusals(rt: HostRuntime) -> Result<(), Fail> {
-    refuses(&rt, rt.alloc(), Refusal::Empty, b"refused empty")?;
-    refuses(&rt, rt.alloc(), Refusal::NoTake, b"refused no-take")?;
-    refuses(&rt, rt.alloc(), Refusal::NoGrant, b"refused no-grant")?;
-    refuses(&rt, rt.alloc(), Refusal::Full, b"refused full")?;
+    let rows: [(Refusal, &[u8]); 4] = [
+        (Refusal::Empty, b"refused empty"),
+        (Refusal::NoTake, b"refused no-take"),
+        (Refusal::NoGrant, b"refused no-grant"),
+        (Refusal::Full, b"refused full"),
+    ];
+    for (refusal, text) in rows {
+        replies(&rt, rt.alloc(), Reply::Refused(refusal), text)?;
+    }
+    Ok(())
+}
+
+// That the four rules with these rights are written as these lines.
+fn written(rt: &impl Abort, alloc: Global, rights: Rights, lines: [&[u8]; 4]) -> Result<(), Fail> {
+    for (rule, line) in rules(rights)?.iter().zip(lines) {
+        let text = write_rule(alloc, rule)?;
+        assert!(rt; text.as_slice() == line);
+        let mut behind = Vec::from_slice(alloc, line)?;
+        append_rule(&mut behind, rule)?;
+        assert!(rt; behind.len() == 2 * line.len());
+        assert!(rt; behind.ends_with(line));
+    }
     Ok(())
 }
 
 #[test]
-fn a_rule_read_and_written(rt: HostRuntime) -> Result<(), Fail> {
-    let rule = read_rule(b"take a b c wr\r")?;
-    let text = write_rule(rt.alloc(), &rule)?;
-    assert!(rt; text.as_slice() == b"take a b c rw".as_slice());
-    Ok(())
+fn rules_with_rights(rt: HostRuntime) -> Result<(), Fail> {
+    let rw = Rights::of(Right::W).union(Rights::of(Right::R));
+    let lines: [&[u8]; 4] = [
+        b"take a b c rw",
+        b"grant a b c rw",
+        b"create a b rw",
+        b"remove a b rw",
+    ];
+    written(&rt, rt.alloc(), rw, lines)
+}
+
+#[test]
+fn rules_without_rights(rt: HostRuntime) -> Result<(), Fail> {
+    let r = Rights::of(Right::R);
+    let lines: [&[u8]; 4] = [
+        b"take a b c -",
+        b"grant a b c -",
+        b"create a b -",
+        b"remove a b -",
+    ];
+    written(&rt, rt.alloc(), r.difference(r), lines)
 }
 
 #[test]
 fn a_canonical_text(rt: HostRuntime) -> Result<(), Fail> {
-    let graph = read_graph(rt.alloc(), b"vertex b\nvertex a\nedge b a gt\n")?;
+    let graph = read_graph(
+        rt.alloc(),
+        b"vertex b\nvertex a\nedge b a gt\nedge a b ewrgt\n",
+    )?;
     let text = write_graph(rt.alloc(), &graph)?;
-    assert!(rt; text.as_slice() == b"vertex a\nvertex b\nedge b a tg\n".as_slice());
+    let wanted = b"vertex a\nvertex b\nedge a b tgrwe\nedge b a tg\n";
+    assert!(rt; text.as_slice() == wanted.as_slice());
     Ok(())
 }
 
@@ -93,10 +118,19 @@ fn names_digits_first(rt: HostRuntime) -> Result<(), Fail> {
 }
 
 #[test]
+fn an_empty_graph(rt: HostRuntime) -> Result<(), Fail> {
+    let graph = read_graph(rt.alloc(), b"")?;
+    assert!(rt; write_graph(rt.alloc(), &graph)?.is_empty());
+    assert!(rt; names_in_order(rt.alloc(), &graph)?.is_empty());
+    Ok(())
+}
+
+#[test]
 fn numbers(rt: HostRuntime) -> Result<(), Fail> {
     let mut text = Vec::new(rt.alloc());
     append_number(&mut text, 0)?;
     append_number(&mut text, 4096)?;
-    assert!(rt; text.as_slice() == b"04096".as_slice());
+    append_number(&mut text, usize::MAX)?;
+    assert!(rt; text.as_slice() == b"0409618446744073709551615".as_slice());
     Ok(())
 }

@@ -1,3 +1,4 @@
+use Rattle.tg_text.proofs.KindTables.{graph_has_these_kinds}
 use Rattle.tg_text.proofs.KindLaws.{graph_line_kinds, graph_text_kinds}
 use Rattle.tg_text.proofs.laws.graph_faults_have_the_least_kind.Goals as goal
 
@@ -6,3 +7,6 @@ returns-clause-lines c = graph_line_kinds
 
 pub returns-clause-texts : goal.returns-clause-texts
 returns-clause-texts c = graph_text_kinds
+
+pub returns-clause-kinds : goal.returns-clause-kinds
+returns-clause-kinds c = graph_has_these_kinds

@@ -1,3 +1,4 @@
+use Rattle.tg_text.proofs.KindTables.{one_rule_has_these_kinds, rules_have_these_kinds}
 use Rattle.tg_text.proofs.KindLaws.{one_rule_kinds, rule_line_kinds, rules_text_kinds}
 use Rattle.tg_text.proofs.laws.rule_faults_have_the_least_kind.Goals as goal
 
@@ -9,3 +10,9 @@ returns-clause-lines c = rule_line_kinds
 
 pub returns-clause-texts : goal.returns-clause-texts
 returns-clause-texts c = rules_text_kinds
+
+pub returns-clause-one_kinds : goal.returns-clause-one_kinds
+returns-clause-one_kinds c = one_rule_has_these_kinds
+
+pub returns-clause-kinds : goal.returns-clause-kinds
+returns-clause-kinds c = rules_have_these_kinds

@@ -1,14 +1,10 @@
-use Rattle.std.proofs.Common.{Result, Ok, Err, OnErr, sym, ap, not, is_some, ◌∙◌, subst, ◌≡◌, Some, bytes_eq, ⊎_elim, is_ok}
+use Rattle.std.proofs.Common.{sym, ap, not, is_some, ◌∙◌, subst, ◌≡◌, Some, bytes_eq, ⊎_elim, is_ok}
 use Rattle.std.specs.Map.{lookup}
 use Rattle.tg_graph.specs.Sets.{nothing}
 use Rattle.tg_graph.specs.Rows.{is_target, Adds, Puts}
 use Rattle.tg_graph.proofs.Places.{gap-lookup, lookup-place}
-use Rattle.tg_graph.proofs.Rows.{adds-new}
+use Rattle.tg_graph.proofs.Rows.{adds-new, on_err_from}
 use Rattle.tg_graph.proofs.shared_row.SharedRow.add_new.Goals as goal
-
-on_err_from : {T E P : Type 0} (r : Result T E) → P → OnErr r P
-on_err_from (Ok x) p = tt
-on_err_from (Err e) p = p
 
 pub returns-in_err-row-in-Err-clause-absent : goal.returns-in_err-row-in-Err-clause-absent
 returns-in_err-row-in-Err-clause-absent c =

@@ -1,5 +1,6 @@
-use Rattle.std.proofs.Common.{length, ◌<◌, sym, ◌∙◌, ap, arith}
-use Rattle.tg_journal.proofs.Rows.{shared_more, shared_within, Begins_take, Begins_trans, from_take, some_there}
+use Rattle.std.proofs.Common.{length, ◌<◌, sym, ◌∙◌, ap, arith, ◌≡◌, take, take_all}
+use Rattle.tg_journal.proofs.Rows.{shared_more, shared_within, Begins_take, Begins_trans, Begins_le, from_take, some_there}
+use Rattle.std.specs.declared.option.Option.TheVariants.{Some}
 use Rattle.std.specs.List.{slice_get}
 use Rattle.tg_journal.proofs.journal.Journal.meet.Goals as goal
 
@@ -25,6 +26,7 @@ loop-place-preserved g c =
       mine = c.meet_at.ensures.mine ∙ i.invariant.mine;
       known = λ place r k. c.meet_at.ensures.known place r (i.invariant.known place r k);
       pass = c.meet_at.ensures.pass;
+      others = λ q h. c.meet_at.ensures.others q (λ e. absurd (omega (arith, e, within))) ∙ i.invariant.others q (omega (arith, Begins_le _ _ c.meet_at.ensures.begins));
       begins = Begins_trans _ _ _ i.invariant.begins c.meet_at.ensures.begins;
       reaches = omega (arith, within);
       longer = omega (arith, c.meet_at.ensures.longer c.if-not-meet_at.false);
@@ -33,3 +35,15 @@ loop-place-preserved g c =
 
 pub returns-then-not-meet_at-clause-known : goal.returns-then-not-meet_at-clause-known
 returns-then-not-meet_at-clause-known g c = λ place r k. c.meet_at.ensures.known place r (c.loop-place.invariant.known place r k)
+
+pub returns-then-not-meet_at-clause-foreign : goal.returns-then-not-meet_at-clause-foreign
+returns-then-not-meet_at-clause-foreign g c =
+    let i = c.loop-place in
+    let size : i.place < length c.args.front.now.seen = omega arith in
+    let foreign = c.meet_at.ensures.foreign c.if-not-meet_at.true in
+    let new = c.meet_at.new.pass in
+    let grows = Begins_le _ _ c.meet_at.ensures.begins in
+    let there = foreign.0 ∙ ap Some c.note-note.ensures.known in
+    let whole : new.seen ≡ take i.place new.seen = sym (take_all i.place new.seen (omega (arith, foreign.1.0))) in
+    let met = whole ∙ Begins_take _ _ i.place i.invariant.reaches c.meet_at.ensures.begins ∙ i.invariant.met in
+    (size, met, there, foreign.1, λ q h. c.meet_at.ensures.others q (λ e. absurd (omega (arith, e, h))) ∙ i.invariant.others q (omega (arith, grows, h, foreign.1.0)))

@@ -50,14 +50,14 @@ invariant_of-self c =
       counted = counted-later h.cells k c.in-Some.i h.records.items later h.seats.items (seen_seat s) t (c.in-Some.ensures.0 ∙ c.seat_in.ensures) grown c.event_at.ensures.counted c.self.invariant.counted;
     }
 
-pub returns-in-None : goal.returns-in-None
-returns-in-None c =
+pub returns-in-None-clause-happens : goal.returns-in-None-clause-happens
+returns-in-None-clause-happens c =
     let h = c.self.inside in
     happens-none c.args.self.now c.args.event.now
     (ap (λ w. seat_of w (seat_in c.args.event.now)) (sym c.self.view_is) ∙ view_none h (seat_in c.args.event.now) c.seat_in.result c.len.result c.seat_in.ensures (c.len.ensures ∙ h.seats.ok.0) c.in-None.ensures)
 
-pub returns-in-Some : goal.returns-in-Some
-returns-in-Some c =
+pub returns-in-Some-clause-happens : goal.returns-in-Some-clause-happens
+returns-in-Some-clause-happens c =
     let h = c.self.inside in
     let g = graph_of h.opening in
     let s = c.index_mut.result.now in

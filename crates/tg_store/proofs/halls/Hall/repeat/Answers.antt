@@ -4,17 +4,17 @@ use Rattle.tg_store.proofs.RunLemmas.{flag, repeated-start, repeated-more, repea
 use Rattle.tg_store.proofs.halls.Hall.repeat.Goals as goal
 
 pub loop-answer-init : goal.loop-answer-init
-loop-answer-init c = repeated-start c.args.self.now c.happen-answer.new.self c.args.event.now c.happen-answer.result c.happen-answer.ensures
+loop-answer-init c = repeated-start c.args.self.now c.happen-answer.new.self c.args.event.now c.happen-answer.result c.happen-answer.ensures.happens
 
 pub loop-answer-preserved : goal.loop-answer-preserved
 loop-answer-preserved c =
     let again = c.happen-answer-in-loop-answer in
-    repeated-more c.args.self.now c.loop-answer.self again.new.self c.args.event.now c.loop-answer.answer again.result c.loop-answer.invariant (sym c.is_learned.ensures ∙ c.loop-answer-test.true) again.ensures
+    repeated-more c.args.self.now c.loop-answer.self again.new.self c.args.event.now c.loop-answer.answer again.result c.loop-answer.invariant (sym c.is_learned.ensures ∙ c.loop-answer-test.true) again.ensures.happens
 
 pub loop-answer-smaller : goal.loop-answer-smaller
 loop-answer-smaller c =
     let again = c.happen-answer-in-loop-answer in
-    let falls = left-falls c.loop-answer.self again.new.self c.args.event.now again.result c.requires again.ensures in
+    let falls = left-falls c.loop-answer.self again.new.self c.args.event.now again.result c.requires again.ensures.happens in
     let one : flag c.loop-answer.answer ≡ 1 = ap (λ b. if b then 1 else 0) (sym c.is_learned.ensures ∙ c.loop-answer-test.true) in
     omega (arith, falls, one)
 

@@ -8,7 +8,7 @@ loop-event-preserved c =
     let inv = c.loop-event.invariant in
     record {
       run = subst (λ rs. Run c.args.self.now (take (c.loop-event.event-index + 1) c.args.events.now) rs c.happen-reply.new.self) (sym c.note.ensures.items)
-          (run-more c.args.self.now c.loop-event.self c.happen-reply.new.self c.args.events.now c.loop-event.replies.items c.loop-event.event-index c.event-item.result c.happen-reply.result c.loop-event-test.true c.event-item.is inv.run c.happen-reply.ensures);
+          (run-more c.args.self.now c.loop-event.self c.happen-reply.new.self c.args.events.now c.loop-event.replies.items c.loop-event.event-index c.event-item.result c.happen-reply.result c.loop-event-test.true c.event-item.is inv.run c.happen-reply.ensures.happens);
       noted = omega (arith, c.note.ensures.len, inv.noted);
       room = c.note.ensures.capacity ∙ inv.room;
     }

@@ -1,9 +1,4 @@
-use Rattle.std.proofs.Common.{◌≡◌, Option, None, Some, IfSome, sym, ap, subst, ◌∙◌}
-use Rattle.std.specs.Option.{option_map}
-use Rattle.tg_graph.specs.Drafts.{laid_over}
-use Rattle.tg_graph.specs.GraphOf.{graph_of}
-use Rattle.tg_store.specs.declared.seats.OpenSession.{OpenSession}
-use Rattle.tg_store.specs.Touches.{IsClear}
+use Rattle.std.proofs.Common.{IfSome, sym, subst}
 use Rattle.tg_store.specs.Seats.{IsSessionOn}
 use Rattle.tg_store.proofs.SeatLemmas.{seat-clear}
 use Rattle.tg_store.proofs.seats.SeatState.lay.Goals as goal

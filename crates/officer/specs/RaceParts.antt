@@ -1,0 +1,87 @@
+-- What the parts of a race's making bring.
+use Rattle.std.specs.Prelude.{◌≡◌, ◌⊎◌, ◌∷◌, ◌<◌, ⊤, ℕ, Bool, true, false, List, ◌++◌, All, IfOk, Ok, Result, length, map, slice_index_or}
+use Rattle.std.specs.List.{flat_map}
+use Rattle.std.specs.declared.alloc.AllocError.{AllocError}
+use Rattle.tg_text.specs.declared.script_text.ScriptLine.{ScriptLine}
+use Rattle.tg_graph.specs.GraphOf.{graph_of}
+use Rattle.tg_journal.specs.Lists.{Begins}
+use Rattle.tg_store.specs.declared.outcomes.StoreMeetFault.{StoreMeetFault}
+use Rattle.tg_store.specs.declared.outcomes.StoreMeetFault.TheVariants as meet
+use Rattle.tg_store.specs.Histories.{replay}
+use Rattle.tg_store.specs.Running.{RunningSeat, GoesOn}
+use Rattle.tg_store.specs.Outcomes.{FindsForeign}
+use Rattle.tg_store.specs.Acts.{IsStageableAct}
+use Rattle.officer.specs.declared.race.Finished.{Finished}
+use Rattle.officer.specs.declared.turns.Player.{Player}
+use Rattle.officer.specs.declared.turns.Player.TheVariants.{Free}
+use Rattle.officer.specs.declared.turns.RaceReply.{RaceReply}
+use Rattle.officer.specs.declared.turns.RaceReply.TheVariants.{Told, Foreign, Memory}
+use Rattle.officer.specs.Readings.{ReportText}
+use Rattle.officer.specs.Outcomes.{MayBeTold}
+use Rattle.officer.specs.Races.{seat_at, events_of, race_line, race_lines, taken_in, graph_report, foreign_report, Turns, TakesTurns}
+
+-- an event of a race may come to this
+abbrev pub MayBeToldInRace : RaceReply → Type 0
+MayBeToldInRace (Told answer) = MayBeTold answer
+MayBeToldInRace (Foreign place) = ⊤
+MayBeToldInRace Memory = ⊤
+
+-- the steps that the events stage name only rights
+abbrev pub AreStageable : List ScriptLine → Type 0
+AreStageable events = All (λ event. IsStageableAct event.act) events
+
+-- a seat does what an event says, and the line of the outcome is added to the text
+pub record TurnsOn (old : Player) (event : ScriptLine) (text text' : List ℕ) (new : Player) : Type 0 where
+  pub answer : RaceReply
+  pub turn : Turns old event.act answer new
+  pub added : text' ≡ text ++ race_line event answer
+
+-- it does so only where the event is its own
+abbrev pub TurnsIf : Bool → Player → ScriptLine → List ℕ → List ℕ → Player → Type 0
+TurnsIf true old event text text' new = TurnsOn old event text text' new
+TurnsIf false old event text text' new = (text' ≡ text) × (new ≡ old)
+
+-- events were played from a seat on, and the text has the lines of what they came to
+pub record HasPlayedTurns (s : RunningSeat) (events : List ScriptLine) (text : List ℕ) (player : Player) : Type 0 where
+  pub answers : List RaceReply
+  pub turns : TakesTurns (Free s) events answers player
+  pub lines : text ≡ race_lines events answers
+
+-- the seat has played its own events
+pub record IsFinished (events : List ScriptLine) (s : RunningSeat) (f : Finished) : Type 0 where
+  pub player : Player
+  pub played : HasPlayedTurns s (events_of s.pass.number events) f.text.items player
+  pub end : f.seat ≡ seat_at player
+
+-- each seat has done so, unless there was no memory for its text
+abbrev pub AreFinished : List ScriptLine → List RunningSeat → List (Result Finished AllocError) → Type 0
+AreFinished events seats results =
+    (k : ℕ) (d : Result Finished AllocError) (s : RunningSeat) → k < length seats → IfOk (slice_index_or results k d) (IsFinished events (slice_index_or seats k s))
+
+-- what the seats brought back: their texts one after another, and the seats
+pub record AreGathered (results : List (Result Finished AllocError)) (text : List ℕ) (seats : List RunningSeat) : Type 0 where
+  pub finished : List Finished
+  pub all : results ≡ map Ok finished
+  pub texts : text ≡ flat_map (λ f. f.text.items) finished
+  pub ends : seats ≡ map (λ f. f.seat) finished
+
+-- the report ends in the fault of a meeting
+pub record EndsInFault (text : List ℕ) (fault : StoreMeetFault) (report : ReportText) : Type 0 where
+  pub place : ℕ
+  pub is : fault ≡ meet.Foreign place
+  pub says : report ≡ foreign_report text place
+
+-- the end of a report, after the text of the outcomes
+abbrev pub EndsSo : List ℕ → List RunningSeat → RunningSeat → ReportText → Type 0
+EndsSo text others last report =
+    (All (λ (other : RunningSeat). Begins other.pass.seen (taken_in last)) others × (report ≡ graph_report text (replay (graph_of last.opening) (taken_in last))))
+    ⊎ ((place : ℕ) × FindsForeign place last × (report ≡ foreign_report text place))
+
+-- The first seat goes on from where it was, and has met the others: the report ends with the graph that it has taken in. Or it found a record of its own number.
+pub record EndsRace (text : List ℕ) (seats : List RunningSeat) (report : ReportText) : Type 0 where
+  pub first : RunningSeat
+  pub others : List RunningSeat
+  pub are : seats ≡ first ∷ others
+  pub last : RunningSeat
+  pub goes_on : GoesOn first last
+  pub end : EndsSo text others last report

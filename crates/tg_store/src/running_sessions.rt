@@ -1,0 +1,219 @@
+//! The sessions of a running store.
+ghost use Rattle.std.specs.Prelude.{◌≡◌, ◌∷◌, ◌++◌, ◌<◌, [], IfOk, OnErr, length};
+ghost use Rattle.tg_graph.specs.GraphOf.{graph_of};
+ghost use Rattle.tg_store.specs.StepWords.{IsNamedStep};
+ghost use Rattle.tg_store.specs.Answers.{IsAnswer, after_steps};
+ghost use Rattle.tg_store.specs.Running.{RunningSession, IsSeat, IsSession};
+ghost use Rattle.tg_store.specs.Outcomes.{BeginSays, CommitSays, CommitFaultSays};
+ghost use Rattle.tg_store.specs.Attempts.{AttemptSays, IsNext};
+ghost use Rattle.tg_store.specs.declared.outcomes.Begun.TheVariants as Begun;
+ghost use Rattle.tg_store.specs.declared.weighing.Weighed.TheVariants as Weighed;
+
+use crate::answers::Steps;
+use crate::outcomes::{CommitFault, Committed, Receipt};
+use crate::records::Record;
+use crate::running_seats::{Look, Offered, Seat};
+use crate::seats::OpenSession;
+use crate::weighing::Weighed;
+use crate::{replays, weighing};
+use std::alloc::AllocError;
+use std::marker::Model;
+use tg_graph::{Draft, Reply, Step};
+use tg_journal::{Journal, Put};
+
+/// An open session at a seat of a running store.
+#[derive(Drop)]
+pub struct Session {
+    seat: Seat,
+    staged: OpenSession,
+}
+
+impl Model for Session {
+    ghost use Rattle.tg_store.specs.Running.{RunningSession};
+    ghost use Rattle.tg_store.specs.Seats.{IsSessionOn};
+
+    ghost Value = { RunningSession };
+
+    ghost view = { λ s. record { seat = s.seat; steps = s.staged.kept.items } };
+
+    ghost invariant = { λ s. IsSessionOn s.seat.graph s.staged };
+}
+
+/// What came of one attempt to commit a session.
+#[derive(Drop)]
+pub enum Attempt {
+    /// The commit is over.
+    Over(Committed),
+    /// One record more was seen or taken in, and the session goes on.
+    Further(Session),
+}
+
+impl Session {
+    // A session without steps.
+    pub(crate) fn open(seat: Seat) -> Session
+        requires { seat.taken ≡ length seat.pass.seen }
+        ensures { BeginSays seat (Begun.Session result) }
+    {
+        // its contract says what is true of the seat
+        let _ = seat.taken();
+        let staged = OpenSession::new(seat.graph(), seat.alloc());
+        Session { seat, staged }
+    }
+
+    /// Stages a step, and answers it. Where memory is refused, nothing is staged.
+    pub fn step(&mut self, step: Step) -> Result<Reply, AllocError>
+        requires { IsNamedStep step }
+        ensures reply { IfOk result
+            (λ reply. IsAnswer (after_steps (graph_of self.old.seat.graph) self.old.steps) step
+            reply) }
+        ensures steps { IfOk result
+            (λ reply. self.new.steps ≡ self.old.steps ++ (record { step = step; reply = reply })
+            ∷ []) }
+        ensures seat { self.new.seat ≡ self.old.seat }
+        ensures err { OnErr result (self.new ≡ self.old) }
+        ensures session { IsSession self.new }
+    {
+        let _ = self.seat.taken();
+        self.staged.stage(self.seat.graph(), &step)
+    }
+
+    /// Gives the session up. Its seat comes back as it was.
+    pub fn abort(self) -> Seat
+        ensures value { result ≡ self.seat }
+        ensures seat { IsSeat result }
+    {
+        let Session { seat, staged: _ } = self;
+        let _ = seat.taken();
+        seat
+    }
+
+    // What the next record that its seat has seen is to the session.
+    fn weigh(&self, journal: &Journal<Record>) -> Result<Weighed, AllocError>
+        requires cells { self.now.seat.pass.cells ≡ journal.now }
+        requires left { self.now.seat.taken < length self.now.seat.pass.seen }
+        ensures { IfOk result (IsNext self.now) }
+    {
+        let place = self.seat.taken();
+        let Some(stored) = self.seat.at(journal, place) else {
+            unreachable!()
+        };
+        weighing::weigh(
+            self.seat.graph(),
+            place,
+            stored.steps.as_slice(),
+            self.staged.kept.as_slice(),
+        )
+    }
+
+    // Rests on the next record as well, whose draft this is. Its own draft is as it was.
+    fn rest_on(self, draft: Draft) -> Attempt
+        requires clear { IsNext self (Weighed.Clear draft) }
+        requires left { self.seat.taken < length self.seat.pass.seen }
+        ensures { AttemptSays self result }
+    {
+        let Session { mut seat, staged } = self;
+        // these contracts say what is true of the seat and of its graph
+        let _ = seat.taken();
+        let _ = seat.graph().len();
+        match seat.take_in(draft) {
+            Ok(()) => Attempt::Further(Session { seat, staged }),
+            Err(AllocError) => Attempt::Over(Committed::Again(Session { seat, staged })),
+        }
+    }
+
+    // Ends by a fault.
+    fn end(self, fault: CommitFault) -> Attempt
+        requires { CommitFaultSays self.steps fault self.seat }
+        ensures { AttemptSays self result }
+    {
+        Attempt::Over(Committed::Refused(self.abort(), fault))
+    }
+
+    // Takes in the next record that its seat has seen, unless that ends the session.
+    fn take_in(self, journal: &Journal<Record>) -> Attempt
+        requires cells { self.seat.pass.cells ≡ journal.now }
+        requires left { self.seat.taken < length self.seat.pass.seen }
+        ensures { AttemptSays self result }
+    {
+        match self.weigh(journal) {
+            Ok(Weighed::Clear(draft)) => self.rest_on(draft),
+            Ok(Weighed::Ends(fault)) => self.end(fault),
+            Err(AllocError) => Attempt::Over(Committed::Again(self)),
+        }
+    }
+
+    // Puts its record in the next cell, or sees the one that got there first.
+    fn put(self, journal: &Journal<Record>) -> Attempt
+        requires cells { self.seat.pass.cells ≡ journal.now }
+        requires all { self.seat.taken ≡ length self.seat.pass.seen }
+        ensures { AttemptSays self result }
+    {
+        let Session { seat, staged } = self;
+        let OpenSession { draft, kept } = staged;
+        let _ = seat.taken();
+        let record = Record {
+            seat: seat.number(),
+            number: seat.commits(),
+            steps: Steps::from_vec(kept),
+        };
+        let offered = seat.offer(journal, &record, draft);
+        let kept = record.steps.into_vec();
+        match offered {
+            Offered::Won(seat, place) => Attempt::Over(Committed::Done(seat, Receipt { place })),
+            Offered::Back(seat, draft, answer) => {
+                let staged = OpenSession { draft, kept };
+                match answer {
+                    Put::Won(_) => unreachable!(),
+                    Put::Full => Attempt::Over(Committed::Refused(seat, CommitFault::JournalFull)),
+                    Put::Foreign(place) => {
+                        Attempt::Over(Committed::Refused(seat, CommitFault::Foreign(place)))
+                    }
+                    Put::Lost(_) => Attempt::Further(Session { seat, staged }),
+                    Put::Memory => Attempt::Over(Committed::Again(Session { seat, staged })),
+                }
+            }
+        }
+    }
+
+    // Puts its record where no further one is found.
+    fn look(self, journal: &Journal<Record>) -> Attempt
+        requires cells { self.seat.pass.cells ≡ journal.now }
+        requires all { self.seat.taken ≡ length self.seat.pass.seen }
+        ensures { AttemptSays self result }
+    {
+        let Session { mut seat, staged } = self;
+        match seat.look(journal) {
+            Look::Found => Attempt::Further(Session { seat, staged }),
+            Look::Nothing => Session { seat, staged }.put(journal),
+            Look::Foreign(place) => {
+                Attempt::Over(Committed::Refused(seat, CommitFault::Foreign(place)))
+            }
+        }
+    }
+
+    /// Takes in one record more, sees one more, or puts the session where no further one is found.
+    pub(crate) fn attempt(self, journal: &Journal<Record>) -> Attempt
+        requires { self.seat.pass.cells ≡ journal.now }
+        ensures { AttemptSays self result }
+    {
+        if self.seat.taken() < self.seat.seen() {
+            self.take_in(journal)
+        } else {
+            self.look(journal)
+        }
+    }
+
+    /// Takes in the records that are left, and puts the session after them.
+    pub(crate) fn commit(self, journal: &Journal<Record>) -> Committed
+        requires { self.seat.pass.cells ≡ journal.now }
+        ensures { CommitSays self result }
+    {
+        let mut session = self;
+        loop {
+            match session.attempt(journal) {
+                Attempt::Over(committed) => return committed,
+                Attempt::Further(next) => session = next,
+            }
+        }
+    }
+}

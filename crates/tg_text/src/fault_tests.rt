@@ -1,0 +1,196 @@
+// Each kind of fault on each text that has it, where there is memory enough.
+use crate::test_helpers::repeated;
+use crate::{TextFault, TextKind, read_graph, read_rule, read_rules, read_script};
+use std::alloc::{AllocError, Global};
+use std::process::Abort;
+use std::test::Fail;
+
+// A line that is one byte too long.
+const LONG: [u8; 257] = [b'#'; 257];
+
+#[test]
+fn graph_faults(rt: HostRuntime) {
+    let rows: [(&[u8], usize, TextKind); 16] = [
+        (&LONG, 1, TextKind::LineTooLong),
+        (b"node a\n", 1, TextKind::BadWord),
+        (b"\xff a", 1, TextKind::BadWord),
+        (b"rules\nrules\n", 1, TextKind::BadWord),
+        (
+            b"vertex a\n\t# vertex a\r\n\nnode a\n",
+            4,
+            TextKind::BadWord,
+        ),
+        (b"vertex a\nedge a", 2, TextKind::WordCount),
+        (b"vertex\n", 1, TextKind::WordCount),
+        (b"vertex abcdefghijklmnopq\n", 1, TextKind::BadName),
+        (b"vertex a\nedge 9 a tt\n", 2, TextKind::BadName),
+        (b"vertex a\nedge a a tt\n", 2, TextKind::BadRights),
+        (b"edge a b -\n", 1, TextKind::BadRights),
+        (b"vertex a\nvertex a\n", 2, TextKind::DuplicateVertex),
+        (b"vertex a\nedge a b r\n", 2, TextKind::UnknownVertex),
+        (b"vertex b\nedge a b r\n", 2, TextKind::UnknownVertex),
+        (
+            b"vertex a\nvertex b\nedge a b r\nedge a b w\n",
+            4,
+            TextKind::DuplicateEdge,
+        ),
+        (b"vertex a\nvertex b\x0b\n", 2, TextKind::BadName),
+    ];
+    for (text, line, kind) in rows {
+        let fault = read_graph(rt.alloc(), text).err();
+        assert!(rt; fault == Some(TextFault::At { line, kind }));
+    }
+}
+
+#[test]
+fn rule_faults(rt: HostRuntime) {
+    let rows: [(&[u8], usize, TextKind); 8] = [
+        (&LONG, 1, TextKind::LineTooLong),
+        (b"# x\nvertex a\n", 2, TextKind::BadWord),
+        (b"take a b c\n", 1, TextKind::WordCount),
+        (b"create a b c r\n", 1, TextKind::WordCount),
+        (b"remove a b r\ngrant a 9 c r\n", 2, TextKind::BadName),
+        (b"remove A b zz\n", 1, TextKind::BadName),
+        (b"create a b rr\n", 1, TextKind::BadRights),
+        (b"\n\nremove a b t-\n", 3, TextKind::BadRights),
+    ];
+    for (text, line, kind) in rows {
+        let fault = read_rules(rt.alloc(), text).err();
+        assert!(rt; fault == Some(TextFault::At { line, kind }));
+    }
+}
+
+#[test]
+fn faults_of_one_rule(rt: HostRuntime) {
+    let rows: [(&[u8], TextKind); 8] = [
+        (&LONG, TextKind::LineTooLong),
+        (b"# x", TextKind::BadWord),
+        (b"", TextKind::BadWord),
+        (b"share r a b", TextKind::BadWord),
+        (b"take a b c r r", TextKind::WordCount),
+        (b"remove 9 b", TextKind::WordCount),
+        (b"create a 9 -", TextKind::BadName),
+        (b"grant a b c x", TextKind::BadRights),
+    ];
+    for (line, kind) in rows {
+        assert!(rt; read_rule(line) == Err(kind));
+    }
+}
+
+#[test]
+fn header_faults(rt: HostRuntime) {
+    let rows: [(&[u8], usize, TextKind); 12] = [
+        (b"", 1, TextKind::NoHeader),
+        (b"# x\n\n", 3, TextKind::NoHeader),
+        (b"seats 2\n", 2, TextKind::NoHeader),
+        (&LONG, 1, TextKind::LineTooLong),
+        (b"cells 8\n", 1, TextKind::BadWord),
+        (b"seats 1\n1 begin\n", 2, TextKind::BadWord),
+        (b"seats\n", 1, TextKind::WordCount),
+        (b"seats 1\ncells 0 0\n", 2, TextKind::WordCount),
+        (b"seats 65\n", 1, TextKind::BadNumber),
+        (b"seats 01\n", 1, TextKind::BadNumber),
+        (b"seats 0\n", 1, TextKind::BadNumber),
+        (b"seats 1\ncells 4097\n", 2, TextKind::BadNumber),
+    ];
+    for (text, line, kind) in rows {
+        let fault = read_script(rt.alloc(), text).err();
+        assert!(rt; fault == Some(TextFault::At { line, kind }));
+    }
+}
+
+#[test]
+fn event_faults(rt: HostRuntime) {
+    let rows: [(&[u8], TextKind); 14] = [
+        (b"seats 1\ncells 1\n1\n", TextKind::BadWord),
+        (b"seats 1\ncells 1\n9 fly\n", TextKind::BadWord),
+        (b"seats 1\ncells 1\n1 take a b\n", TextKind::WordCount),
+        (b"seats 2\ncells 1\n2 take 9 b c\n", TextKind::WordCount),
+        (b"seats 1\ncells 1\n2 begin now\n", TextKind::WordCount),
+        (b"seats 1\ncells 1\n2 begin\n", TextKind::BadNumber),
+        (b"seats 1\ncells 1\nx begin\n", TextKind::BadNumber),
+        (b"seats 1\ncells 1\n2 take 9 b c zz\n", TextKind::BadNumber),
+        (b"seats 1\ncells 1\n0 holds r a b\n", TextKind::BadNumber),
+        (b"seats 1\ncells 1\n1 holds rw 9 b\n", TextKind::BadName),
+        (b"seats 1\ncells 1\n1 create a 9 r\n", TextKind::BadName),
+        (b"seats 1\ncells 1\n1 holds rw a b\n", TextKind::BadRights),
+        (b"seats 1\ncells 1\n1 share - a b\n", TextKind::BadRights),
+        (b"seats 1\ncells 1\n1 grant a b c gg\n", TextKind::BadRights),
+    ];
+    for (text, kind) in rows {
+        let fault = read_script(rt.alloc(), text).err();
+        assert!(rt; fault == Some(TextFault::At { line: 3, kind }));
+    }
+}
+
+// The text with lines of a number each behind it.
+fn numbered(alloc: Global, front: &str, count: usize) -> Result<String, AllocError> {
+    let mut text = String::new(alloc);
+    for n in 0..count {
+        let line = format!(in alloc; "{front}{n}\n")?;
+        text.push_str(line.as_str())?;
+    }
+    Ok(text)
+}
+
+#[test]
+fn most_vertices(rt: HostRuntime) -> Result<(), Fail> {
+    let mut text = numbered(rt.alloc(), "vertex v", 1024)?;
+    assert!(rt; read_graph(rt.alloc(), text.as_bytes()).is_ok());
+    text.push_str("vertex v0\n")?;
+    let twice = read_graph(rt.alloc(), text.as_bytes()).err();
+    assert!(rt;
+        twice
+            == Some(TextFault::At {
+                line: 1025,
+                kind: TextKind::DuplicateVertex
+            })
+    );
+    let more = numbered(rt.alloc(), "vertex v", 1025)?;
+    let many = read_graph(rt.alloc(), more.as_bytes()).err();
+    assert!(rt;
+        many == Some(TextFault::At {
+            line: 1025,
+            kind: TextKind::TooManyVertices
+        })
+    );
+    Ok(())
+}
+
+// That a text of most rules is read, and with this line behind it is refused for this kind.
+fn rule_behind(
+    rt: &impl Abort,
+    rules: &[u8],
+    line: &[u8],
+    kind: TextKind,
+    alloc: Global,
+) -> Result<(), AllocError> {
+    let text = repeated(alloc, rules, line, 1)?;
+    let fault = read_rules(alloc, text.as_slice()).err();
+    assert!(rt; fault == Some(TextFault::At { line: 65537, kind }));
+    Ok(())
+}
+
+#[test]
+fn most_rules(rt: HostRuntime) -> Result<(), Fail> {
+    let rules = repeated(rt.alloc(), b"", b"remove a a r\n", 65536)?;
+    assert!(rt; read_rules(rt.alloc(), rules.as_slice()).is_ok());
+    rule_behind(&rt, &rules, b"remove a a r", TextKind::TooMany, rt.alloc())?;
+    rule_behind(&rt, &rules, b"remove 9 a r", TextKind::BadName, rt.alloc())?;
+    Ok(())
+}
+
+#[test]
+fn most_events(rt: HostRuntime) -> Result<(), Fail> {
+    let mut events = repeated(rt.alloc(), b"seats 1\ncells 1\n", b"1 begin\n", 65536)?;
+    assert!(rt; read_script(rt.alloc(), events.as_slice()).is_ok());
+    events.extend_from_slice(b"1 begin\n")?;
+    let many = read_script(rt.alloc(), events.as_slice()).err();
+    assert!(rt;
+        many == Some(TextFault::At {
+            line: 65539,
+            kind: TextKind::TooMany
+        })
+    );
+    Ok(())
+}
