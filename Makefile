@@ -24,6 +24,7 @@ demo: build
 	@$(call show,share $(GRAPH) r client payroll)
 	@$(call show,derive $(GRAPH) r client payroll)
 	@$(call show,apply $(GRAPH) $(FILES).derive.out)
+	@$(call show,table $(GRAPH) r)
 	@$(call show,run $(GRAPH) $(FILES).script)
 
 examples: build
@@ -35,6 +36,7 @@ examples: build
 	@$(OFFICER) share $(GRAPH) r client payroll | diff - $(FILES).share.out
 	@$(OFFICER) derive $(GRAPH) r client payroll | diff - $(FILES).derive.out
 	@$(OFFICER) derive $(GRAPH) t service clerk | diff - $(FILES).helpers.out
+	@$(OFFICER) table $(GRAPH) r | diff - $(FILES).table.out
 	@$(OFFICER) run $(GRAPH) $(FILES).script | diff - $(FILES).script.out
 	@$(OFFICER) race $(GRAPH) $(FILES).race.script | diff - $(FILES).race.out
 	@echo "Each example prints what is stored beside it."

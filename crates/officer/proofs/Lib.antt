@@ -10,6 +10,7 @@ pub mod ScriptLemmas
 pub mod DerivedTexts
 pub mod DealingLemmas
 pub mod OneReport
+pub mod TableTests
 pub mod IslandLines
 pub mod OnePlay
 pub mod RunLaws

@@ -1,13 +1,13 @@
 -- A command has one report for its texts.
-use Rattle.std.proofs.Common.{◌≡◌, ◌⊎◌, ℕ, Bool, true, false, cond, ◌||◌, List, [], ◌∷◌, ◌++◌, refl, sym, ◌∙◌, ap, inl, inr, filter}
+use Rattle.std.proofs.Common.{◌≡◌, ◌⊎◌, ℕ, Bool, true, false, cond, ◌||◌, List, [], ◌∷◌, ◌++◌, refl, sym, ◌∙◌, ap, inl, inr, filter, map}
 use Rattle.std.specs.Prelude.{Result, Ok, Err}
 use Rattle.std.specs.List.{flat_map}
 use Rattle.tg_graph.specs.Graphs.{Name, ProtectionGraph, has_vertex}
 use Rattle.tg_text.specs.Canonical.{in_name_order}
 use Rattle.tg_text.proofs.NameOrder.{among, among-in_order, same_name-refl}
-use Rattle.officer.specs.Calls.{Case, Check, Apply, Islands, Share, Derive, Run}
-use Rattle.officer.specs.Readings.{ReportText, Question, graph_in, question_in}
-use Rattle.officer.specs.Reports.{IsFor, Is, IsAnswer, IsDerived, TellsIslands, AreIslandLines, island_line, islands_text, check_report, apply_report, graph_part, rules_part}
+use Rattle.officer.specs.Calls.{Case, Check, Apply, Islands, Share, Derive, Table, Run}
+use Rattle.officer.specs.Readings.{ReportText, Question, TableQuestion, graph_in, question_in, table_in}
+use Rattle.officer.specs.Reports.{IsFor, Is, TellsSharing, AreTableLines, digit_for, table_text, IsAnswer, IsDerived, TellsIslands, AreIslandLines, island_line, islands_text, check_report, apply_report, graph_part, rules_part}
 use Rattle.officer.specs.Runs.{playing_in, IsPlayed}
 use Rattle.officer.specs.ReportLaws.{FindsRules, ThereIsOneReport}
 use Rattle.officer.proofs.OnePlay.{played_one}
@@ -49,6 +49,28 @@ islands_one g a b h k =
     let F : List ℕ → ReportText = λ bytes. record { bytes = bytes; status = 0 } in
     h.2 ∙ (ap F same ∙ sym k.2)
 
+-- ---- tables
+digits_same : (p q : Name → Bool) (names : List Name) → ((v : Name) → among v names ≡ true → p v ≡ q v) → map (λ v. digit_for (p v)) names ≡ map (λ v. digit_for (q v)) names
+digits_same p q [] h = refl
+digits_same p q (v ∷ vs) h =
+    ap (λ b. digit_for b ∷ map (λ u. digit_for (p u)) vs) (h v (first_true _ _ (same_name-refl v)))
+    ∙ ap (λ (ds : List ℕ). digit_for (q v) ∷ ds) (digits_same p q vs (λ u k. h u (either_true _ _ k)))
+
+rows_same : (p q : Name → Name → Bool) (all names : List Name) → ((v w : Name) → among v names ≡ true → among w all ≡ true → p v w ≡ q v w) → flat_map (λ u. u ++ 32 ∷ map (λ v. digit_for (p u v)) all ++ 10 ∷ []) names ≡ flat_map (λ u. u ++ 32 ∷ map (λ v. digit_for (q u v)) all ++ 10 ∷ []) names
+rows_same p q all [] h = refl
+rows_same p q all (v ∷ vs) h =
+    ap (λ (ds : List ℕ). (v ++ 32 ∷ ds ++ 10 ∷ []) ++ flat_map (λ u. u ++ 32 ∷ map (λ w. digit_for (p u w)) all ++ 10 ∷ []) vs) (digits_same (p v) (q v) all (λ w k. h v w (first_true _ _ (same_name-refl v)) k))
+    ∙ ap (λ (t : List ℕ). (v ++ 32 ∷ map (λ w. digit_for (q v w)) all ++ 10 ∷ []) ++ t) (rows_same p q all vs (λ u w k l. h u w (either_true _ _ k) l))
+
+table_one : (q : TableQuestion) (a b : ReportText) → AreTableLines q a → AreTableLines q b → a ≡ b
+table_one q a b h k =
+    let vs = in_name_order q.graph.vertices in
+    let one : (v w : Name) → has_vertex q.graph v ≡ true → has_vertex q.graph w ≡ true → h.0 v w ≡ k.0 v w = λ v w kv kw. same_truth (h.0 v w) (k.0 v w) (λ t. (k.1 v w kv kw).1 ((h.1 v w kv kw).0 t)) (λ t. (h.1 v w kv kw).1 ((k.1 v w kv kw).0 t)) in
+    let same : table_text h.0 vs ≡ table_text k.0 vs =
+    rows_same h.0 k.0 vs vs (λ v w i j. one v w (sym (among-in_order v q.graph.vertices) ∙ i) (sym (among-in_order w q.graph.vertices) ∙ j)) in
+    let F : List ℕ → ReportText = λ bytes. record { bytes = bytes; status = 0 } in
+    h.2 ∙ (ap F same ∙ sym k.2)
+
 -- ---- answers
 answer_one : (q : Question) (a b : ReportText) → IsAnswer q a → IsAnswer q b → a ≡ b
 answer_one q a b (inl h) (inl k) = h.1 ∙ sym k.1
@@ -81,4 +103,5 @@ one_report Apply first second a b i j = inl (is_one (apply_report first second) 
 one_report Islands first second a b i j = inl (for_one AreIslandLines (graph_in first) a b (λ g h k. islands_one g a b h k) i j)
 one_report (Share right x y) first second a b i j = inl (for_one IsAnswer (question_in first right x y) a b (λ q h k. answer_one q a b h k) i j)
 one_report (Derive right x y) first second a b i j = for_derived (question_in first right x y) a b i j
+one_report (Table right workers) first second a b i j = inl (for_one AreTableLines (table_in first right workers) a b (λ q h k. table_one q a b h k) i j)
 one_report Run first second a b i j = inl (for_one (λ p. IsPlayed p.graph p.script) (playing_in first second) a b (λ p h k. played_one p.graph p.script a b h k) i j)

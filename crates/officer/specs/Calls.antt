@@ -1,6 +1,7 @@
 -- What the words of a command line ask for.
-use Rattle.std.specs.Prelude.{ℕ, List, [], ◌∷◌, bytes_eq, codes, if◌then◌else◌, Option, Some, None}
+use Rattle.std.specs.Prelude.{ℕ, List, [], ◌∷◌, length, nat_lt, bytes_eq, codes, if◌then◌else◌, Option, Some, None}
 use Rattle.std.specs.Option.{option_map}
+use Rattle.tg_text.specs.Words.{with_digits}
 use Rattle.officer.specs.declared.words.Command.{Command}
 use Rattle.officer.specs.declared.words.Command.TheVariants as command
 use Rattle.officer.specs.declared.words.Call.{Call}
@@ -14,6 +15,7 @@ pub data CommandWords : Type 0 where
   Islands : CommandWords
   Share : List ℕ → List ℕ → List ℕ → CommandWords
   Derive : List ℕ → List ℕ → List ℕ → CommandWords
+  Table : List ℕ → ℕ → CommandWords
   Run : CommandWords
 
 -- a call with its words
@@ -30,6 +32,7 @@ command_words command.Apply = Apply
 command_words command.Islands = Islands
 command_words (command.Share right x y) = Share right.now x.now y.now
 command_words (command.Derive right x y) = Derive right.now x.now y.now
+command_words (command.Table right workers) = Table right.now workers
 command_words command.Run = Run
 
 abbrev pub call_words : Call → CallWords
@@ -53,15 +56,29 @@ graph_command name = if bytes_eq name (codes "check") then Some Check else (if b
 abbrev pub text_command : List ℕ → Option CommandWords
 text_command name = if bytes_eq name (codes "apply") then Some Apply else (if bytes_eq name (codes "run") then Some Run else None)
 
--- the calls on a graph and a second text
+-- a number of workers: one to four digits
+abbrev pub workers_of : List ℕ → Option ℕ
+workers_of [] = None
+workers_of (b ∷ bs) = if nat_lt 3 (length bs) then None else with_digits 0 (b ∷ bs)
+
+-- how many workers there are where nothing is said
+abbrev pub usual_workers : ℕ
+usual_workers = 4
+
+-- the calls on a graph and one word more: a race, a table by the usual number of workers, or a second text
 abbrev pub texts_call : List ℕ → List ℕ → List ℕ → Option CallWords
 texts_call name graph second =
-    if bytes_eq name (codes "race") then Some (Race graph second) else option_map (λ c. Files c graph second) (text_command name)
+    if bytes_eq name (codes "race") then Some (Race graph second)
+    else (if bytes_eq name (codes "table") then Some (File (Table second usual_workers) graph) else option_map (λ c. Files c graph second) (text_command name))
+
+-- a table by so many workers
+abbrev pub table_command : List ℕ → List ℕ → List ℕ → Option CommandWords
+table_command right option workers = if bytes_eq option (codes "--workers") then option_map (λ n. Table right n) (workers_of workers) else None
 
 -- the questions to a graph
 abbrev pub question : List ℕ → List ℕ → List ℕ → List ℕ → Option CommandWords
 question name right x y =
-    if bytes_eq name (codes "share") then Some (Share right x y) else (if bytes_eq name (codes "derive") then Some (Derive right x y) else None)
+    if bytes_eq name (codes "share") then Some (Share right x y) else (if bytes_eq name (codes "derive") then Some (Derive right x y) else (if bytes_eq name (codes "table") then table_command right x y else None))
 
 -- the call that the words ask for
 abbrev pub call_of : List (List ℕ) → Option CallWords

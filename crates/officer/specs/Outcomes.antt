@@ -1,5 +1,5 @@
 -- What the parts of a report's making bring.
-use Rattle.std.specs.Prelude.{◌≡◌, ⊤, All, ◌<◌, ℕ, nat_eq, map, filter, Bool, true, false, List, ◌++◌, ◌≤◌, length, Option, Some, None, Result, Ok, Err}
+use Rattle.std.specs.Prelude.{◌≡◌, ⊤, All, ◌<◌, ℕ, nat_eq, bytes_eq, position, map, filter, option_and_then, Bool, true, false, unwrap_or, List, [], ◌∷◌, ◌++◌, ◌≤◌, length, Option, Some, None, Result, Ok, Err}
 use Rattle.std.specs.List.{flat_map}
 use Rattle.std.specs.Option.{option_eq}
 use Rattle.tg_graph.specs.declared.rules.Refusal.{Refusal}
@@ -16,14 +16,16 @@ use Rattle.tg_store.specs.declared.events.HallFault.{HallFault}
 use Rattle.tg_store.specs.declared.events.HallFault.TheVariants as hall
 use Rattle.tg_store.specs.declared.events.HallReply.{HallReply}
 use Rattle.tg_store.specs.declared.events.HallReply.TheVariants as reply
+use Rattle.tg_analysis.specs.Tables.{Table, table_cell, most_workers}
 use Rattle.tg_store.specs.Worlds.{World}
 use Rattle.tg_store.specs.Acts.{IsStageableAct}
 use Rattle.officer.specs.declared.outcome.Report.{Report}
 use Rattle.officer.specs.declared.outcome.Halt.{Halt}
 use Rattle.officer.specs.declared.outcome.Halt.TheVariants as halt
 use Rattle.officer.specs.declared.inputs.Question.{Question}
-use Rattle.officer.specs.Readings.{ReportText, Question as Asked}
-use Rattle.officer.specs.Reports.{Played, reply_line, island_line}
+use Rattle.officer.specs.declared.inputs.TableWork.{TableWork}
+use Rattle.officer.specs.Readings.{ReportText, Question as Asked, TableQuestion}
+use Rattle.officer.specs.Reports.{Played, reply_line, island_line, digit_for}
 use Rattle.officer.specs.Runs.{IsOutcome}
 
 abbrev pub report_text : Report → ReportText
@@ -105,3 +107,32 @@ pub record PlaysOn (w : World) (event : ScriptLine) (text text' : List ℕ) (v :
   pub outcome : IsOutcome w event line v
   pub added : text' ≡ text ++ line
   pub seats : length v.seats ≡ length w.seats
+
+abbrev pub table_question_of : TableWork → TableQuestion
+table_question_of work = record { graph = graph_of work.graph; right = work.right }
+
+-- what a table can count on: no more vertices than a text may name, and a number of workers that there may be
+pub record IsTableWork (work : TableWork) : Type 0 where
+  pub small : length (graph_of work.graph).vertices ≤ most_vertices
+  pub some : 0 < work.workers
+  pub few : work.workers ≤ most_workers
+
+-- where a name stands among these
+abbrev pub place_in : List Name → Name → Option ℕ
+place_in vs v = position (bytes_eq v) vs
+
+-- each name with its place
+abbrev pub placed : List Name → List Name → List (Name × Option ℕ)
+placed vs names = map (λ v. (v, place_in vs v)) names
+
+-- the digit of the cell at two places
+abbrev pub digit_at : Table → Option ℕ → Option ℕ → ℕ
+digit_at table i j = digit_for (unwrap_or (option_and_then (λ a. option_and_then (λ b. table_cell table a b) j) i) false)
+
+-- the line of a name with its place
+abbrev pub placed_line : Table → List (Name × Option ℕ) → Name × Option ℕ → List ℕ
+placed_line table entries e = e.0 ++ 32 ∷ map (λ f. digit_at table e.1 f.1) entries ++ 10 ∷ []
+
+-- the lines of names with their places
+abbrev pub placed_text : Table → List (Name × Option ℕ) → List ℕ
+placed_text table entries = flat_map (placed_line table entries) entries

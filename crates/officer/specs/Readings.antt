@@ -1,5 +1,5 @@
 -- What the texts and the words of a command give, or the report of the first fault.
-use Rattle.std.specs.Prelude.{ℕ, List, [], ◌∷◌, codes, decimal, Result, Ok, Err, is_ok, ok_or, if◌then◌else◌}
+use Rattle.std.specs.Prelude.{ℕ, List, [], ◌∷◌, codes, decimal, Result, Ok, Err, is_ok, ok_or, if◌then◌else◌, nat_eq, nat_lt, ◌||◌}
 use Rattle.tg_graph.specs.declared.right_sets.Right.{Right}
 use Rattle.tg_graph.specs.Names.{name_of}
 use Rattle.tg_graph.specs.Graphs.{Name, ProtectionGraph, has_vertex}
@@ -12,6 +12,7 @@ use Rattle.tg_text.specs.GraphText.{graph_text}
 use Rattle.tg_text.specs.RuleText.{rules_text}
 use Rattle.tg_text.specs.ScriptText.{ScriptOf, script_text}
 use Rattle.tg_text.specs.Canonical.{line_of}
+use Rattle.tg_analysis.specs.Tables.{most_workers}
 
 -- a report
 pub record ReportText : Type 0 where
@@ -83,3 +84,20 @@ question_in first right x y = do
   u ← vertex_in g a
   v ← vertex_in g b
   Ok (record { graph = g; right = r; x = u; y = v })
+
+-- a number of workers that there may be
+abbrev pub workers_in : ℕ → Result ℕ ReportText
+workers_in workers = if nat_eq workers 0 || nat_lt most_workers workers then Err (refusal (codes "workers" ∷ [])) else Ok workers
+
+-- for each two vertices, whether the first can come to have the right over the second
+pub record TableQuestion : Type 0 where
+  pub graph : ProtectionGraph
+  pub right : Right
+
+-- what table is asked of the graph of a text, the words in their order
+abbrev pub table_in : List ℕ → List ℕ → ℕ → Result TableQuestion ReportText
+table_in first right workers = do
+  g ← graph_in first
+  r ← right_in right
+  w ← workers_in workers
+  Ok (record { graph = g; right = r })

@@ -12,7 +12,7 @@ use Rattle.tg_text.specs.RuleText.{rules_text}
 use Rattle.tg_text.specs.Canonical.{canonical_text, line_of}
 use Rattle.tg_analysis.specs.Sharing.{InOneIsland}
 use Rattle.tg_analysis.specs.Derivations.{IsDerivation}
-use Rattle.officer.specs.Calls.{CommandWords, Case, Check, Apply, Islands, Share, Derive, Run}
+use Rattle.officer.specs.Calls.{CommandWords, Case, Check, Apply, Islands, Share, Derive, Table, Run}
 use Rattle.officer.specs.Readings.{Question, ReportText, question_in}
 use Rattle.officer.specs.Reports.{Played, played, check_report, derivation_report, AreIslandLines, IsReport}
 
@@ -58,6 +58,7 @@ GivesRules Check first report = ⊥
 GivesRules Apply first report = ⊥
 GivesRules Islands first report = ⊥
 GivesRules (Share right x y) first report = ⊥
+GivesRules (Table right workers) first report = ⊥
 GivesRules Run first report = ⊥
 
 -- a command has one report for its texts, but that other rules may be found

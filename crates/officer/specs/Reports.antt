@@ -1,6 +1,7 @@
 -- Reports: the bytes and the status that a command gives for its texts.
-use Rattle.std.specs.Prelude.{◌≡◌, ◌⊎◌, ◌↔◌, IsTrue, filter, ℕ, nat_le, Bool, true, false, ◌&&◌, List, [], ◌∷◌, ◌++◌, length, codes, bytes_eq, decimal, Option, Some, None, Result, Ok, Err, if◌then◌else◌}
+use Rattle.std.specs.Prelude.{◌≡◌, ◌⊎◌, ◌↔◌, IsTrue, filter, ℕ, nat_le, Bool, true, false, ◌&&◌, List, [], ◌∷◌, ◌++◌, map, length, codes, bytes_eq, decimal, Option, Some, None, Result, Ok, Err, if◌then◌else◌}
 use Rattle.std.specs.List.{flat_map, before_first, after_first}
+use Rattle.tg_graph.specs.declared.right_sets.Right.{Right}
 use Rattle.tg_graph.specs.declared.rules.Refusal.{Refusal}
 use Rattle.tg_graph.specs.declared.session.Reply.{Reply}
 use Rattle.tg_graph.specs.declared.session.Reply.TheVariants.{Done, Refused}
@@ -17,8 +18,8 @@ use Rattle.tg_text.specs.RoundTrips.{lines_of_rules}
 use Rattle.tg_text.specs.Canonical.{line_of, canonical_text, in_name_order}
 use Rattle.tg_analysis.specs.Sharing.{InOneIsland}
 use Rattle.tg_analysis.specs.Derivations.{IsDerivation}
-use Rattle.officer.specs.Calls.{CommandWords, Case, Check, Apply, Islands, Share, Derive, Run}
-use Rattle.officer.specs.Readings.{ReportText, graph_in, rules_in, Question, question_in}
+use Rattle.officer.specs.Calls.{CommandWords, Case, Check, Apply, Islands, Share, Derive, Table, Run}
+use Rattle.officer.specs.Readings.{ReportText, graph_in, rules_in, Question, question_in, TableQuestion, table_in}
 use Rattle.officer.specs.Runs.{playing_in, IsPlayed}
 
 -- the line of a reply, after the number of the rule's own line
@@ -118,6 +119,23 @@ abbrev pub AreIslandLines : ProtectionGraph → ReportText → Type 0
 AreIslandLines g report =
     (together : Name → Name → Bool) × TellsIslands g together × (report ≡ record { bytes = islands_text together (in_name_order g.vertices); status = 0 })
 
+-- the test tells which vertices can come to have the right over which
+abbrev pub TellsSharing : ProtectionGraph → Right → (Name → Name → Bool) → Type 0
+TellsSharing g right shares = (u v : Name) → has_vertex g u ≡ true → has_vertex g v ≡ true → IsTrue (shares u v) ↔ CanShare g right u v
+
+-- 1 for yes and 0 for no
+abbrev pub digit_for : Bool → ℕ
+digit_for answer = if answer then 49 else 48
+
+-- for each of the names a line: the name, a space, and a digit for each of the names
+abbrev pub table_text : (Name → Name → Bool) → List Name → List ℕ
+table_text shares vs = flat_map (λ u. u ++ 32 ∷ map (λ v. digit_for (shares u v)) vs ++ 10 ∷ []) vs
+
+-- a line for each vertex in name order, with a digit for each vertex in name order
+abbrev pub AreTableLines : TableQuestion → ReportText → Type 0
+AreTableLines q report =
+    (shares : Name → Name → Bool) × TellsSharing q.graph q.right shares × (report ≡ record { bytes = table_text shares (in_name_order q.graph.vertices); status = 0 })
+
 -- the report of a fault, or one of which the fact holds
 abbrev pub IsFor : {A : Type 0} → (A → ReportText → Type 0) → Result A ReportText → ReportText → Type 0
 IsFor P (Ok a) report = P a report
@@ -134,4 +152,5 @@ IsReport Apply first second = IsFor Is (apply_report first second)
 IsReport Islands first second = IsFor AreIslandLines (graph_in first)
 IsReport (Share right x y) first second = IsFor IsAnswer (question_in first right x y)
 IsReport (Derive right x y) first second = IsFor IsDerived (question_in first right x y)
+IsReport (Table right workers) first second = IsFor AreTableLines (table_in first right workers)
 IsReport Run first second = IsFor (λ playing. IsPlayed playing.graph playing.script) (playing_in first second)

@@ -117,7 +117,7 @@ fn report_of<R: Threads + Sync + AllocGlobal>(
 {
     match call.command() {
         Some(command) => {
-            let made = report(rt.alloc(), &command, &texts.first, &texts.second)?;
+            let made = report(rt, rt.alloc(), &command, &texts.first, &texts.second)?;
             Ok(made)
         }
         None => {

@@ -5,11 +5,12 @@ ghost use Rattle.tg_graph.specs.Graphs.{has_vertex};
 ghost use Rattle.tg_graph.specs.Limits.{most_vertices};
 ghost use Rattle.tg_text.specs.RuleText.{AreNamedLines};
 ghost use Rattle.tg_text.specs.ScriptText.{script_of};
-ghost use Rattle.officer.specs.Readings.{kind_word, refusal, text_refusal, graph_in, rules_in, script_in, right_in, name_in, vertex_in, question_in};
-ghost use Rattle.officer.specs.Outcomes.{Brings, report_text, question_of, IsAskable, IsPlayableScript};
+ghost use Rattle.officer.specs.Readings.{kind_word, refusal, text_refusal, graph_in, rules_in, script_in, right_in, name_in, vertex_in, question_in, workers_in, table_in};
+ghost use Rattle.officer.specs.Outcomes.{Brings, report_text, question_of, table_question_of, IsAskable, IsTableWork, IsPlayableScript};
 
 use crate::outcome::{Halt, Report};
 use std::alloc::{AllocError, Global};
+use tg_analysis::MOST_WORKERS;
 use tg_graph::{Graph, Name, NameFault, Refusal, Reply, Right};
 use tg_text::{
     RuleLine, Script, TextFault, TextKind, append_reply, read_graph, read_rules, read_script,
@@ -177,4 +178,42 @@ pub(crate) fn question_in(
     let x = vertex_in(alloc, &graph, x)?;
     let y = vertex_in(alloc, &graph, y)?;
     Ok(Question { graph, right, x, y })
+}
+
+fn workers_in(alloc: Global, workers: u64) -> Result<u64, Halt>
+    ensures { Brings (λ workers. workers) result (workers_in workers) }
+{
+    if workers == 0 || workers > MOST_WORKERS {
+        Err(Halt::Refused(word_refusal(alloc, "workers")?))
+    } else {
+        Ok(workers)
+    }
+}
+
+/// A graph and the right whose table is asked for, and how many workers make it.
+#[derive(Drop)]
+pub(crate) struct TableWork {
+    pub graph: Graph,
+    pub right: Right,
+    pub workers: u64,
+}
+
+// The table that a text and words ask for, or the report of the first fault.
+pub(crate) fn table_in(
+    alloc: Global,
+    text: &[u8],
+    right: &str,
+    workers: u64,
+) -> Result<TableWork, Halt>
+    ensures made { Brings table_question_of result (table_in text.now right.now workers) }
+    ensures possible { IfOk result IsTableWork }
+{
+    let graph = graph_in(alloc, text)?;
+    let right = right_in(alloc, right)?;
+    let workers = workers_in(alloc, workers)?;
+    Ok(TableWork {
+        graph,
+        right,
+        workers,
+    })
 }

@@ -4,6 +4,7 @@ use crate::words::Command;
 use std::alloc::{AllocError, Global};
 use std::process::Abort;
 use std::test::Fail;
+use std::thread::Threads;
 
 // A line so many times.
 fn repeated(alloc: Global, line: &[u8], count: usize) -> Result<Vec<u8>, AllocError> {
@@ -24,7 +25,7 @@ fn vertices(alloc: Global, count: usize) -> Result<String, AllocError> {
     Ok(text)
 }
 
-fn checks<R: Abort + AllocGlobal>(
+fn checks<R: Abort + Threads + Sync + AllocGlobal>(
     rt: &R,
     graph: &[u8],
     wanted: &[u8],
@@ -58,7 +59,7 @@ fn lines_too_long(rt: HostRuntime) -> Result<(), Fail> {
 #[test]
 fn most_vertices(rt: HostRuntime) -> Result<(), Fail> {
     let mut text = vertices(rt.alloc(), 1024)?;
-    let accepted = report(rt.alloc(), &Command::Check, text.as_bytes(), b"")?;
+    let accepted = report(&rt, rt.alloc(), &Command::Check, text.as_bytes(), b"")?;
     assert!(rt; accepted.status == 0);
     text.push_str("vertex v0\n")?;
     checks(
@@ -117,7 +118,7 @@ fn most_cells(rt: HostRuntime) -> Result<(), Fail> {
     let mut script = Vec::from_slice(rt.alloc(), b"seats 1\ncells 4096\n")?;
     let events = repeated(rt.alloc(), b"1 begin\n1 commit\n", 4097)?;
     script.extend_from_slice(&events)?;
-    let made = report(rt.alloc(), &Command::Run, b"", &script)?;
+    let made = report(&rt, rt.alloc(), &Command::Run, b"", &script)?;
     ends_with(
         &rt,
         &made.bytes,
@@ -132,6 +133,7 @@ fn most_cells(rt: HostRuntime) -> Result<(), Fail> {
 fn a_crowded_session(rt: HostRuntime) -> Result<(), Fail> {
     let graph = vertices(rt.alloc(), 1023)?;
     let made = report(
+        &rt,
         rt.alloc(),
         &Command::Run,
         graph.as_bytes(),

@@ -28,6 +28,9 @@ mod sharing;
 pub mod surroundings;
 #[cfg(test)]
 mod surroundings_tests;
+mod table_lines;
+#[cfg(test)]
+mod table_report_tests;
 #[cfg(test)]
 mod test_reports;
 #[cfg(test)]

@@ -6,19 +6,20 @@ use crate::words::Command;
 use std::alloc::AllocError;
 use std::process::Abort;
 use std::test::Fail;
+use std::thread::Threads;
 
 const GRAPH: &[u8] = b"vertex a\nvertex b\nvertex c\nedge a b g\nedge b c r\n";
 
 // The report has these bytes.
-fn reports<R: Abort + AllocGlobal>(
+fn reports<R: Abort + Threads + Sync + AllocGlobal>(
     rt: &R,
     command: Command,
     second: &[u8],
     wanted: &[u8],
 ) -> Result<(), AllocError> {
-    let made = match report(rt.alloc(), &command, GRAPH, second) {
+    let made = match report(rt, rt.alloc(), &command, GRAPH, second) {
         Ok(made) => made,
-        Err(_) => report(rt.alloc(), &command, GRAPH, second)?,
+        Err(_) => report(rt, rt.alloc(), &command, GRAPH, second)?,
     };
     assert!(rt; made.bytes.as_slice() == wanted);
     Ok(())

@@ -12,8 +12,10 @@ use crate::parts::parts_of;
 use crate::playing::play;
 use crate::running::run;
 use crate::sharing::{derive, share};
+use crate::table_lines::table;
 use crate::words::Command;
 use std::alloc::{AllocError, Global};
+use std::thread::Threads;
 use tg_text::write_graph;
 
 fn check(alloc: Global, first: &[u8]) -> Result<Report, Halt>
@@ -56,9 +58,9 @@ fn case(alloc: Global, input: &[u8]) -> Result<Report, Halt>
 
 /// The report of a command for its texts. A command of one text leaves the second aside.
 ///
-/// An error means that there was no memory. Until there is a command that starts threads, the
-/// allocator is all that it needs of the runtime.
-pub fn report(
+/// An error means that there was no memory. A table alone starts threads, and waits for them.
+pub fn report<R: Threads + Sync>(
+    rt: &R,
     alloc: Global,
     command: &Command,
     first: &[u8],
@@ -74,6 +76,7 @@ pub fn report(
         Command::Islands => islands_of(alloc, first),
         Command::Share { right, x, y } => share(alloc, first, right, x, y),
         Command::Derive { right, x, y } => derive(alloc, first, right, x, y),
+        Command::Table { right, workers } => table(rt, alloc, first, right, workers),
         Command::Run => run(alloc, first, second),
     };
     match made {

@@ -2,9 +2,10 @@ use crate::test_reports::reports;
 use crate::words::Command;
 use std::process::Abort;
 use std::test::Fail;
+use std::thread::Threads;
 
 // What a script on a graph reports.
-fn runs<R: Abort + AllocGlobal>(
+fn runs<R: Abort + Threads + Sync + AllocGlobal>(
     rt: &R,
     graph: &[u8],
     script: &[u8],
@@ -14,7 +15,11 @@ fn runs<R: Abort + AllocGlobal>(
 }
 
 // The fault of a script on a graph with a take and a right to be taken.
-fn refuses<R: Abort + AllocGlobal>(rt: &R, script: &[u8], wanted: &[u8]) -> Result<(), Fail> {
+fn refuses<R: Abort + Threads + Sync + AllocGlobal>(
+    rt: &R,
+    script: &[u8],
+    wanted: &[u8],
+) -> Result<(), Fail> {
     let graph = b"vertex a\nvertex b\nvertex c\nedge a b t\nedge b c r\n";
     reports(rt, Command::Run, graph, script, wanted, 1)
 }

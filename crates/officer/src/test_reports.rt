@@ -3,9 +3,10 @@ use crate::report::report;
 use crate::words::Command;
 use std::process::Abort;
 use std::test::Fail;
+use std::thread::Threads;
 
 /// The report of a command for two texts has these bytes and this status.
-pub(crate) fn reports<R: Abort + AllocGlobal>(
+pub(crate) fn reports<R: Abort + Threads + Sync + AllocGlobal>(
     rt: &R,
     command: Command,
     first: &[u8],
@@ -13,7 +14,7 @@ pub(crate) fn reports<R: Abort + AllocGlobal>(
     wanted: &[u8],
     status: u8,
 ) -> Result<(), Fail> {
-    let made = report(rt.alloc(), &command, first, second)?;
+    let made = report(rt, rt.alloc(), &command, first, second)?;
     assert!(rt; made.bytes.as_slice() == wanted);
     assert!(rt; made.status == status);
     Ok(())

@@ -2,6 +2,7 @@ use crate::test_reports::reports;
 use crate::words::Command;
 use std::process::Abort;
 use std::test::Fail;
+use std::thread::Threads;
 
 #[test]
 fn canonical_texts(rt: HostRuntime) -> Result<(), Fail> {
@@ -491,7 +492,10 @@ fn islands(rt: HostRuntime) -> Result<(), Fail> {
 }
 
 // The graph is read before what comes after it.
-fn refuses_graph<R: Abort + AllocGlobal>(rt: &R, command: Command) -> Result<(), Fail> {
+fn refuses_graph<R: Abort + Threads + Sync + AllocGlobal>(
+    rt: &R,
+    command: Command,
+) -> Result<(), Fail> {
     reports(
         rt,
         command,

@@ -1,7 +1,12 @@
 //! What the command line asks for.
 ghost use Rattle.std.specs.Prelude.{◌≡◌, map};
 ghost use Rattle.std.specs.Option.{option_map};
-ghost use Rattle.officer.specs.Calls.{call_of, call_words, command_of, command_words, graph_command, text_command, texts_call, question};
+ghost use Rattle.officer.specs.Calls.{call_of, call_words, command_of, command_words, graph_command, text_command, texts_call, table_command, question, workers_of};
+ghost use Rattle.std.specs.Prelude.{◌≤◌, length};
+ghost use Rattle.tg_text.specs.Words.{is_digit, with_digits};
+
+// How many workers make a table where the words do not say it.
+const USUAL_WORKERS: u64 = 4;
 
 /// A report to make, with the words of the command line as they were given.
 #[derive(Clone, Copy, PartialEq, Eq, Debug)]
@@ -25,6 +30,11 @@ pub enum Command<'a> {
         right: &'a str,
         x: &'a str,
         y: &'a str,
+    },
+    /// Who can come to have the right over whom, found by so many workers.
+    Table {
+        right: &'a str,
+        workers: u64,
     },
     /// What a script leads to.
     Run,
@@ -76,12 +86,63 @@ fn text_command(name: &str) -> Option<Command<'static>>
     }
 }
 
+fn is_digit(byte: u8) -> bool
+    ensures { result ≡ is_digit byte }
+{
+    b'0' <= byte && byte <= b'9'
+}
+
+// The number that digits write, at most four of them.
+fn with_digits(digits: &[u8]) -> Option<u64>
+    requires { length digits.now ≤ 4 }
+    ensures { result ≡ with_digits 0 digits.now }
+{
+    let mut number = 0;
+    for byte in digits {
+        if !is_digit(*byte) {
+            return None;
+        }
+        number = 10 * number + u64::from(*byte - b'0');
+    }
+    Some(number)
+}
+
+// The number of workers that one to four digits write.
+fn workers_of(word: &[u8]) -> Option<u64>
+    ensures { result ≡ workers_of word.now }
+{
+    match word {
+        [] => None,
+        [_, rest @ ..] if rest.len() > 3 => None,
+        _ => with_digits(word),
+    }
+}
+
 fn texts_call<'a>(name: &str, graph: &'a str, second: &'a str) -> Option<Call<'a>>
     ensures { option_map call_words result ≡ texts_call name.now graph.now second.now }
 {
     match name {
         "race" => Some(Call::Race(graph, second)),
+        "table" => Some(Call::File(
+            Command::Table {
+                right: second,
+                workers: USUAL_WORKERS,
+            },
+            graph,
+        )),
         _ => Some(Call::Files(text_command(name)?, graph, second)),
+    }
+}
+
+fn table_command<'a>(right: &'a str, option: &str, workers: &str) -> Option<Command<'a>>
+    ensures { option_map command_words result ≡ table_command right.now option.now workers.now }
+{
+    match option {
+        "--workers" => {
+            let workers = workers_of(workers.as_bytes())?;
+            Some(Command::Table { right, workers })
+        }
+        _ => None,
     }
 }
 
@@ -91,6 +152,7 @@ fn question<'a>(name: &str, right: &'a str, x: &'a str, y: &'a str) -> Option<Co
     match name {
         "share" => Some(Command::Share { right, x, y }),
         "derive" => Some(Command::Derive { right, x, y }),
+        "table" => table_command(right, x, y),
         _ => None,
     }
 }

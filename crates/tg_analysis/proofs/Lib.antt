@@ -26,4 +26,7 @@ pub mod Places
 pub mod Linked
 pub mod FloodSteps
 pub mod Numbered
+pub mod JoinedHoldings
+pub mod Gathered
+pub mod Blocked
 pub mod Spreads

@@ -7,3 +7,6 @@ pub mod Moves
 pub mod Derivations
 pub mod Questions
 pub mod Searches
+pub mod Holdings
+pub mod Gathered
+pub mod Tables

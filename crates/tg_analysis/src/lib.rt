@@ -2,11 +2,15 @@
 #![tactic(auto)]
 
 mod answers;
+mod blocks;
 mod chains;
 #[cfg(test)]
 mod derivation_tests;
 mod derivations;
 mod flooding;
+mod gates;
+mod gathering;
+mod holdings;
 #[cfg(test)]
 mod island_tests;
 pub mod laws;
@@ -18,11 +22,18 @@ mod moves;
 mod numbering;
 mod questions;
 mod spreading;
+mod table_faults;
+#[cfg(test)]
+mod table_tests;
+mod tables;
 #[cfg(test)]
 mod test_graphs;
 
 pub use answers::can_share;
 pub use derivations::derivation;
 pub use flooding::islands;
+pub use gates::{Gate, OpenGate};
 pub use numbering::Islands;
 pub use questions::AskFault;
+pub use table_faults::TableFault;
+pub use tables::{MOST_WORKERS, PairTable, pair_table};

@@ -5,10 +5,14 @@ ghost use Rattle.tg_graph.specs.Sets.{IsNamed};
 use crate::answers::can_share;
 use crate::derivations::derivation;
 use crate::flooding::islands;
+use crate::gates::OpenGate;
 use crate::questions::AskFault;
+use crate::table_faults::TableFault;
+use crate::tables::{PairTable, pair_table};
 use std::alloc::{AllocError, Global};
 use std::process::Abort;
 use std::test::Fail;
+use std::thread::Threads;
 use tg_graph::{EdgeFault, Graph, Name, Right, Rights, Rule, VertexFault};
 
 fn added(graph: &mut Graph, name: Name) -> Result<(), VertexFault> {
@@ -84,5 +88,29 @@ fn refused_questions(rt: HostRuntime) -> Result<(), Fail> {
         return Ok(());
     };
     assert!(rt; rules.len() == 4);
+    Ok(())
+}
+
+// Who can come to have r over whom, by two workers.
+fn tabled<R: Threads + Abort + Sync>(
+    rt: &R,
+    alloc: Global,
+    graph: &Graph,
+) -> Result<PairTable, TableFault> {
+    match pair_table(rt, alloc, graph, Right::R, 2, &OpenGate) {
+        Ok(table) => Ok(table),
+        Err(fault) => {
+            assert!(rt; fault == TableFault::Memory);
+            pair_table(rt, alloc, graph, Right::R, 2, &OpenGate)
+        }
+    }
+}
+
+#[test]
+fn refused_table(rt: HostRuntime) -> Result<(), Fail> {
+    let graph = three(rt.alloc())?;
+    let table = tabled(&rt, rt.alloc(), &graph)?;
+    assert!(rt; table.len() == 3);
+    assert!(rt; table.cell(0, 2) == Some(true) && table.cell(2, 2) == Some(false));
     Ok(())
 }

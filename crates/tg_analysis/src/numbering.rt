@@ -1,5 +1,5 @@
 //! The numbers of islands.
-ghost use Rattle.std.specs.Prelude.{◌≡◌, slice_get};
+ghost use Rattle.std.specs.Prelude.{◌≡◌, length, slice_get};
 ghost use Rattle.std.specs.Map.{keys_of};
 ghost use Rattle.tg_analysis.specs.Numbering.{AreCounted, number_of};
 
@@ -39,6 +39,13 @@ impl Islands {
         ensures { AreCounted self.now result }
     {
         self.count
+    }
+
+    /// How many vertices there are.
+    pub(crate) fn len(&self) -> usize
+        ensures { result ≡ length self.now }
+    {
+        self.numbers.len()
     }
 
     /// The number of the island of the vertex at a position; none past the end.

@@ -1,0 +1,84 @@
+//! Gathering what islands hold, from the edges.
+ghost use Rattle.std.specs.Prelude.{◌≡◌, ◌≤◌, IfOk, OnOk, length};
+ghost use Rattle.tg_graph.specs.Limits.{most_vertices};
+ghost use Rattle.tg_graph.specs.Rows.{row_number};
+ghost use Rattle.tg_analysis.specs.Numbering.{AreCounted};
+ghost use Rattle.tg_analysis.specs.Gathered.{target_of, TakesEdge, TakesEdges, Gathers};
+
+use crate::holdings::Holdings;
+use crate::numbering::Islands;
+use std::alloc::{AllocError, Global};
+use tg_graph::{Graph, Right};
+
+// The position of the target of an edge, if its label has the right.
+fn target_of(graph: &Graph, right: Right, position: usize, place: usize) -> Option<usize>
+    ensures { result ≡ target_of graph.now right position place }
+{
+    let (name, label) = graph.row_at(position, place)?;
+    if label.has(right) {
+        graph.position(name)
+    } else {
+        None
+    }
+}
+
+// The island of a vertex holds what one of its edges says.
+fn add_edge(
+    held: &mut Holdings,
+    graph: &Graph,
+    islands: &Islands,
+    right: Right,
+    position: usize,
+    place: usize,
+) -> Result<(), AllocError>
+    requires small { length graph.now ≤ most_vertices }
+    requires counted { AreCounted islands.now (length held.old) }
+    ensures { OnOk result (TakesEdge graph.now islands.now right position place held.old held.new) }
+{
+    let Some(target) = target_of(graph, right, position, place) else {
+        return Ok(());
+    };
+    let Some(number) = islands.of(position) else {
+        return Ok(());
+    };
+    held.add(number, target)?;
+    Ok(())
+}
+
+// The island of a vertex holds what its edges say.
+fn add_row(
+    held: &mut Holdings,
+    graph: &Graph,
+    islands: &Islands,
+    right: Right,
+    position: usize,
+) -> Result<(), AllocError>
+    requires small { length graph.now ≤ most_vertices }
+    requires counted { AreCounted islands.now (length held.old) }
+    ensures { OnOk result (TakesEdges graph.now islands.now right position (length (row_number graph.now position)) held.old held.new) }
+{
+    for place in 0..graph.row_len(position) {
+        add_edge(held, graph, islands, right, position, place)?;
+    }
+    Ok(())
+}
+
+/// What islands hold by the edges out of the vertices from the first up to the last, that one excluded.
+pub(crate) fn gather(
+    alloc: Global,
+    graph: &Graph,
+    islands: &Islands,
+    right: Right,
+    first: usize,
+    last: usize,
+) -> Result<Holdings, AllocError>
+    requires small { length graph.now ≤ most_vertices }
+    requires ordered { first ≤ last }
+    ensures { IfOk result (λ held. Gathers graph.now islands.now right first last held) }
+{
+    let mut held = Holdings::none(alloc, islands.count())?;
+    for position in first..last {
+        add_row(&mut held, graph, islands, right, position)?;
+    }
+    Ok(held)
+}
