@@ -7,7 +7,7 @@ use Rattle.tg_text.specs.Canonical.{in_name_order}
 use Rattle.tg_text.proofs.NameOrder.{among, among-in_order, same_name-refl}
 use Rattle.officer.specs.Calls.{Case, Check, Apply, Islands, Share, Derive, Table, Run}
 use Rattle.officer.specs.Readings.{ReportText, Question, TableQuestion, graph_in, question_in, table_in}
-use Rattle.officer.specs.Reports.{IsFor, Is, TellsSharing, AreTableLines, digit_for, table_text, IsAnswer, IsDerived, TellsIslands, AreIslandLines, island_line, islands_text, check_report, apply_report, graph_part, rules_part}
+use Rattle.officer.specs.Reports.{IsFor, Is, AreTableLines, digit_for, table_text, IsAnswer, IsDerived, TellsIslands, AreIslandLines, island_line, islands_text, check_report, apply_report, graph_part, rules_part}
 use Rattle.officer.specs.Runs.{playing_in, IsPlayed}
 use Rattle.officer.specs.ReportLaws.{FindsRules, ThereIsOneReport}
 use Rattle.officer.proofs.OnePlay.{played_one}

@@ -1,5 +1,5 @@
 -- The blocks of the workers, joined from the last one on.
-use Rattle.std.proofs.Common.{◌≡◌, ℕ, ◌<◌, ◌≤◌, ◌+◌, ◌*◌, ◌/◌, ◌^◌, Bool, List, [], ◌∷◌, ◌++◌, refl, sym, ap, subst, ◌∙◌, length, get_or, Some, Result, Ok, IfOk, replicate, arith}
+use Rattle.std.proofs.Common.{◌≡◌, ℕ, ◌<◌, ◌≤◌, ◌+◌, ◌*◌, ◌/◌, ◌^◌, Bool, List, [], ◌∷◌, ◌++◌, sym, ap, subst, ◌∙◌, length, get_or, Some, Result, Ok, IfOk, replicate, arith}
 use Rattle.std.proofs.lemmas.Option.{slice_get-get_or}
 use Rattle.std.proofs.lemmas.List.{get_or_append_left, length-append}
 use Rattle.std.proofs.Math.Nat.{mul-div_cancel_left, zero-div, zero-mul, le-div_iff_mul-le, div-mul-le_self, div-le_of_le-mul, mul-le-mul, mul-le-mul_right}

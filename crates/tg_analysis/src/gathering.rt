@@ -63,7 +63,8 @@ fn add_row(
     Ok(())
 }
 
-/// What islands hold by the edges out of the vertices from the first up to the last, that one excluded.
+/// What islands hold by the edges out of the vertices from the first up to the last, that one
+/// excluded.
 pub(crate) fn gather(
     alloc: Global,
     graph: &Graph,

@@ -5,7 +5,8 @@ ghost use Rattle.tg_analysis.specs.Holdings.{is_marked, holds_over, MarksOne, Co
 use std::alloc::{AllocError, Global};
 use std::marker::Model;
 
-// The positions of the vertices over which one island holds the right: a mark for each, up to the last one.
+// The positions of the vertices over which one island holds the right: a mark for each, up to the
+// last one.
 #[derive(Drop)]
 struct Targets {
     marks: Vec<bool>,

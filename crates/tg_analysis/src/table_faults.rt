@@ -1,7 +1,8 @@
 //! Why there is no table of all pairs.
 use std::alloc::AllocError;
 
-/// Why there is no table of all pairs. Where several reasons are there, the first of this list is meant.
+/// Why there is no table of all pairs. Where several reasons are there, the first of this list is
+/// meant.
 #[derive(Clone, Copy, PartialEq, Eq, Debug)]
 pub enum TableFault {
     /// The number of workers is not 1 to 16.

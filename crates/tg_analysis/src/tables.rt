@@ -18,7 +18,8 @@ use tg_graph::{Graph, MOST_VERTICES, Right};
 /// How many workers there may be. There is at least one.
 pub const MOST_WORKERS: u64 = 16;
 
-/// The table of all pairs of vertices, by position: whether the first can come to hold the right over the second.
+/// The table of all pairs of vertices, by position: whether the first can come to hold the right
+/// over the second.
 ///
 /// The vertices of an island share one row.
 #[derive(Drop)]
@@ -43,7 +44,8 @@ impl PairTable {
         self.islands.len()
     }
 
-    /// Whether the vertex at position i can come to hold the right over the one at position j; `None` outside the table.
+    /// Whether the vertex at position i can come to hold the right over the one at position j;
+    /// `None` outside the table.
     pub fn cell(&self, i: usize, j: usize) -> Option<bool>
         ensures { result ≡ table_cell self.now i j }
     {
@@ -76,11 +78,13 @@ fn compute<R: Threads + Sync, G: Gate>(
     Ok(PairTable { islands, held })
 }
 
-/// The table of a right over all pairs of vertices. The islands are found once, and so many workers gather what they hold.
+/// The table of a right over all pairs of vertices. The islands are found once, and so many workers
+/// gather what they hold.
 ///
-/// With n vertices and w workers, block b has the rows from b * n / w up to (b + 1) * n / w, that end excluded. Its
-/// worker passes the gate once and then gathers what the vertices of these rows hold, for each island together. Where
-/// no worker can be started, the caller does the block. The table is the same for every number of workers.
+/// With n vertices and w workers, block b has the rows from b * n / w up to (b + 1) * n / w, that
+/// end excluded. Its worker passes the gate once and then gathers what the vertices of these rows
+/// hold, for each island together. Where no worker can be started, the caller does the block. The
+/// table is the same for every number of workers.
 ///
 /// # Errors
 /// - `Workers`: the number of workers is not 1 to 16.

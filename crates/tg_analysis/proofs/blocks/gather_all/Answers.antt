@@ -1,6 +1,5 @@
-use Rattle.std.proofs.Common.{◌≡◌, ◌<◌, ◌≤◌, ◌+◌, ◌++◌, ◌∷◌, [], length, arith, sym, ap, ◌∙◌}
+use Rattle.std.proofs.Common.{◌≡◌, ◌≤◌, ◌+◌, ◌∷◌, [], length, arith, sym, ap, ◌∙◌}
 use Rattle.std.proofs.lemmas.List.{length-append}
-use Rattle.tg_analysis.specs.Tables.{block_start}
 use Rattle.tg_analysis.proofs.Gathered.{one_count}
 use Rattle.tg_analysis.proofs.Blocked.{blocks-none, blocks-all, blocks-fewer, blocks-last, blocks-joined}
 use Rattle.tg_analysis.proofs.blocks.gather_all.Goals as goal

@@ -1,4 +1,4 @@
-use Rattle.std.proofs.Common.{◌<◌, ◌^◌, length, arith, sym, ap, subst}
+use Rattle.std.proofs.Common.{◌<◌, ◌^◌, length, arith, sym, subst}
 use Rattle.std.specs.Map.{keys_of}
 use Rattle.std.proofs.lemmas.Map.Entries.{length-keys_of}
 use Rattle.tg_analysis.specs.Gathered.{Gathers}

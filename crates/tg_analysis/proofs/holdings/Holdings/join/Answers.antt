@@ -1,4 +1,4 @@
-use Rattle.std.proofs.Common.{◌≡◌, ◌≤◌, ℕ, ◌||◌, ◌++◌, ◌∷◌, [], length, arith, sym, ap, subst, ◌∙◌}
+use Rattle.std.proofs.Common.{◌||◌, ◌∷◌, [], length, arith, sym, ap, subst, ◌∙◌}
 use Rattle.std.proofs.lemmas.List.{length-append}
 use Rattle.tg_analysis.specs.Holdings.{holds_over, AddsTargets}
 use Rattle.tg_analysis.proofs.JoinedHoldings.{holds-moved}
