@@ -50,7 +50,8 @@ fn append_digits(
     i: Option<usize>,
     entries: &[(Name, Option<usize>)],
 ) -> Result<(), AllocError>
-    ensures { OnOk result (text.new.items ≡ text.old.items ++ map (λ f. digit_at table.now i f.1) entries.now) }
+    ensures { OnOk result
+        (text.new.items ≡ text.old.items ++ map (λ f. digit_at table.now i f.1) entries.now) }
 {
     for entry in entries {
         text.push(digit_at(table, i, entry.1))?;
@@ -65,7 +66,8 @@ fn append_line(
     entry: (Name, Option<usize>),
     entries: &[(Name, Option<usize>)],
 ) -> Result<(), AllocError>
-    ensures { OnOk result (text.new.items ≡ text.old.items ++ placed_line table.now entries.now entry) }
+    ensures { OnOk result
+        (text.new.items ≡ text.old.items ++ placed_line table.now entries.now entry) }
 {
     text.extend_from_slice(entry.0.as_bytes())?;
     text.push(b' ')?;
@@ -111,7 +113,8 @@ fn table_report<R: Threads + Sync>(
     work: &TableWork,
 ) -> Result<Report, AllocError>
     requires { IsTableWork work.now }
-    ensures { IfOk result (λ report. AreTableLines (table_question_of work.now) (report_text report)) }
+    ensures { IfOk result
+        (λ report. AreTableLines (table_question_of work.now) (report_text report)) }
 {
     let table = table_of(rt, alloc, work)?;
     let names = names_in_order(alloc, &work.graph)?;

@@ -62,14 +62,16 @@ fn gather_blocks<R: Threads + Sync, G: Gate>(
     requires small { length graph.now ≤ most_vertices }
     requires few { workers ≤ most_workers }
     ensures len { IfOk result (λ blocks. vec_len blocks ≡ workers) }
-    ensures each { IfOk result (λ blocks. AreBlocks graph.now islands.now right workers blocks.items) }
+    ensures each { IfOk result
+        (λ blocks. AreBlocks graph.now islands.now right workers blocks.items) }
 {
     thread::map_indices(
         rt,
         alloc,
         workers,
         &|block|
-            requires { (length graph.now ≤ most_vertices) × (workers ≤ most_workers) × (block < workers) }
+            requires { (length graph.now ≤ most_vertices) × (workers ≤ most_workers)
+                × (block < workers) }
         { gather_block(alloc, graph, islands, right, workers, gate, block) },
     )
 }

@@ -55,7 +55,9 @@ fn add_row(
 ) -> Result<(), AllocError>
     requires small { length graph.now ≤ most_vertices }
     requires counted { AreCounted islands.now (length held.old) }
-    ensures { OnOk result (TakesEdges graph.now islands.now right position (length (row_number graph.now position)) held.old held.new) }
+    ensures { OnOk result
+        (TakesEdges graph.now islands.now right position
+        (length (row_number graph.now position)) held.old held.new) }
 {
     for place in 0..graph.row_len(position) {
         add_edge(held, graph, islands, right, position, place)?;
