@@ -1,7 +1,7 @@
 # make demo       proves and builds the program, and shows it on the file service of examples/
 # make examples   compares what each example prints with what is stored beside it
 # make test       the merge gate: every proof from nothing, the wrong bodies, the tests, the program;
-#                 some 20 minutes on four cores
+#                 some 40 minutes on four cores
 # make man        the manual page
 # make bench      time and peak memory of each command on heavy inputs
 # make races      races of 16 seats, each report compared with a small model's
