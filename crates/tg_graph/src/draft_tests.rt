@@ -3,10 +3,12 @@ ghost use Rattle.tg_graph.specs.Rules.{rights_of};
 ghost use Rattle.tg_graph.specs.Drafts.{Fits};
 
 use crate::draft::{Draft, Ready};
+use crate::names::Name;
 use crate::protection::Graph;
 use crate::right_sets::{Right, Rights};
 use crate::rules::{Refusal, Rule, RuleFault};
 use crate::test_values::{create, name, remove, take, three};
+use std::alloc::Global;
 use std::process::Abort;
 use std::test::Fail;
 
@@ -39,32 +41,75 @@ fn drafts(rt: &impl Abort, draft: &mut Draft, base: &Graph, rule: Rule)
     assert!(rt; draft.apply(base, &rule) == Ok(()));
 }
 
+// Whether x has the right over y in what the draft stands for.
+fn drafted(draft: &Draft, base: &Graph, x: Name, right: Right, y: Name) -> bool
+    requires { Fits base.now draft.now }
+{
+    draft.holds(base, x, right, y)
+}
+
+// What the draft stands for, with how many vertices.
+fn whole(rt: &impl Abort, draft: &Draft, base: &Graph, vertices: usize) -> Result<Graph, Fail>
+    requires { Fits base.now draft.now }
+{
+    let whole = draft.whole(base)?;
+    assert!(rt; whole.len() == vertices);
+    Ok(whole)
+}
+
+// The label of the edge from x to y is r.
+fn has_r(rt: &impl Abort, graph: &Graph, x: Name, y: Name) {
+    assert!(rt; graph.label(x, y) == Some(Rights::of(Right::R)));
+}
+
 #[test]
 fn a_draft_over_a_graph(rt: HostRuntime) -> Result<(), Fail> {
     let base = three(&rt, rt.alloc())?;
     let mut draft = Draft::new(rt.alloc());
     let (a, c) = (name(&rt, b"a"), name(&rt, b"c"));
-    assert!(rt; !draft.holds(&base, a, Right::R, c));
+    assert!(rt; !drafted(&draft, &base, a, Right::R, c));
     drafts(&rt, &mut draft, &base, take_r(&rt));
-    assert!(rt; draft.holds(&base, a, Right::R, c) && !base.holds(a, Right::R, c));
-    let whole = draft.whole(&base)?;
-    assert!(rt; whole.label(a, c) == Some(Rights::of(Right::R)) && !base.holds(a, Right::R, c));
+    assert!(rt; drafted(&draft, &base, a, Right::R, c));
+    has_r(&rt, &whole(&rt, &draft, &base, 3)?, a, c);
+    assert!(rt; !base.holds(a, Right::R, c));
     Ok(())
+}
+
+// The graph with the one vertex a.
+fn lone(rt: &impl Abort, alloc: Global) -> Result<Graph, Fail> {
+    let mut graph = Graph::new(alloc);
+    graph.add_vertex(name(rt, b"a"))?;
+    Ok(graph)
+}
+
+// n was created in the draft, and is no vertex of the base.
+fn is_created(rt: &impl Abort, draft: &Draft, base: &Graph)
+    requires { Fits base.now draft.now }
+{
+    assert!(rt; draft.created() == 1);
+    assert!(rt; draft.known(base, name(rt, b"n")));
+    assert!(rt; base.len() == 1);
+}
+
+// The draft refuses to create n again.
+fn is_taken(rt: &impl Abort, draft: &mut Draft, base: &Graph)
+    requires { Fits base.now draft.old }
+    ensures { Fits base.now draft.new }
+{
+    let fault = RuleFault::Refused(Refusal::Taken(name(rt, b"n")));
+    assert!(rt; draft.apply(base, &create_r(rt)) == Err(fault));
 }
 
 #[test]
 fn a_draft_creates(rt: HostRuntime) -> Result<(), Fail> {
-    let mut base = Graph::new(rt.alloc());
-    let (a, n) = (name(&rt, b"a"), name(&rt, b"n"));
-    base.add_vertex(a)?;
+    let base = lone(&rt, rt.alloc())?;
     let mut draft = Draft::new(rt.alloc());
     drafts(&rt, &mut draft, &base, create_r(&rt));
-    assert!(rt; draft.created() == 1 && draft.known(&base, n) && base.len() == 1);
-    let fault = RuleFault::Refused(Refusal::Taken(n));
-    assert!(rt; draft.apply(&base, &create_r(&rt)) == Err(fault));
-    let whole = draft.whole(&base)?;
-    assert!(rt; whole.len() == 2 && whole.position(n) == Some(1));
-    assert!(rt; whole.label(a, n) == Some(Rights::of(Right::R)));
+    is_created(&rt, &draft, &base);
+    is_taken(&rt, &mut draft, &base);
+    let whole = whole(&rt, &draft, &base, 2)?;
+    assert!(rt; whole.position(name(&rt, b"n")) == Some(1));
+    has_r(&rt, &whole, name(&rt, b"a"), name(&rt, b"n"));
     Ok(())
 }
 
