@@ -24,6 +24,7 @@ pub fn set(rt: &impl Abort, letters: &[u8]) -> Rights
     Rights::from_letters(letters).expect(rt, "a set of rights")
 }
 
+/// x takes rights over z from y.
 pub fn take(rt: &impl Abort, x: &[u8], y: &[u8], z: &[u8], letters: &[u8]) -> Rule
     ensures { IsNamed (rights_of result) }
 {
@@ -35,6 +36,7 @@ pub fn take(rt: &impl Abort, x: &[u8], y: &[u8], z: &[u8], letters: &[u8]) -> Ru
     }
 }
 
+/// x grants y rights over z.
 pub fn grant(rt: &impl Abort, x: &[u8], y: &[u8], z: &[u8], letters: &[u8]) -> Rule
     ensures { IsNamed (rights_of result) }
 {
@@ -46,6 +48,7 @@ pub fn grant(rt: &impl Abort, x: &[u8], y: &[u8], z: &[u8], letters: &[u8]) -> R
     }
 }
 
+/// x creates n with rights over it.
 pub fn create(rt: &impl Abort, x: &[u8], n: &[u8], letters: &[u8]) -> Rule
     ensures { IsNamed (rights_of result) }
 {
@@ -56,6 +59,7 @@ pub fn create(rt: &impl Abort, x: &[u8], n: &[u8], letters: &[u8]) -> Rule
     }
 }
 
+/// x gives up rights over y.
 pub fn remove(rt: &impl Abort, x: &[u8], y: &[u8], letters: &[u8]) -> Rule
     ensures { IsNamed (rights_of result) }
 {
