@@ -15,3 +15,4 @@ pub mod RowsOf
 pub mod NewNames
 pub mod Drafts
 pub mod DraftLaws
+pub mod NameNumbers

@@ -53,7 +53,7 @@ step_none : (b : Bool) (k : ℕ) (o : Option ℕ) → (if b then o else Some k) 
 step_none true k o e = (refl, e)
 step_none false k o e = absurd (none-some k (sym e))
 
-spelled : (k : ℕ) (bs : List ℕ) → first_bad k bs ≡ None → AllByRecursion IsNameByte bs
+pub spelled : (k : ℕ) (bs : List ℕ) → first_bad k bs ≡ None → AllByRecursion IsNameByte bs
 spelled k [] h = tt
 spelled k (b ∷ bs) h =
     let s = step_none (fits_at k b) k (first_bad (k + 1) bs) h in

@@ -1,19 +1,20 @@
 -- The place of an edge in a row, and what a change at that place does.
-use Rattle.std.proofs.Common.{◌≡◌, ℕ, zero, suc, ◌<◌, true, false, cond, List, [], ◌∷◌, length, get_or, set, Some, None, Result, Ok, Err, IfOk, IfErr, IsSome, is_some, sym, ap, subst, ◌∙◌, bytes_eq, nat_cmp, arith, add-one, ⊎_elim}
+use Rattle.std.proofs.Common.{◌≡◌, ℕ, zero, suc, ◌+◌, ◌<◌, ◌≤◌, true, false, cond, List, [], ◌∷◌, length, get_or, set, Some, None, Result, Ok, Err, IfOk, IfErr, IsSome, is_some, refl, sym, ap, subst, ◌∙◌, bytes_eq, nat_cmp, arith, add-one, ⊎_elim, true≢false}
 use Rattle.std.specs.List.{insert, remove, AllByRecursion, IsDistinct}
 use Rattle.std.specs.List.Sorted.{IsStrictlySortedBy, IsSearchInRange, IsBinarySearchResult, IsNonDecreasingBy}
 use Rattle.std.specs.Map.{keys_of, lookup, set_value, remove_entry}
-use Rattle.std.specs.Ordering.{is_eq, is_lt, ordering_index, ordering_reverse}
+use Rattle.std.specs.Ordering.{is_eq, is_lt, is_gt, ordering_index, ordering_reverse}
 use Rattle.std.specs.declared.cmp.Ordering.{Ordering}
-use Rattle.std.specs.declared.cmp.Ordering.TheVariants.{Less, Greater}
+use Rattle.std.specs.declared.cmp.Ordering.TheVariants.{Less, Equal, Greater}
 use Rattle.std.specs.Cmp.Lexicographic.{slice_cmp, nat_list_cmp_total, nat_list_eq_equiv, texts_ties}
 use Rattle.std.proofs.lemmas.Bool.{cases_lt}
+use Rattle.std.proofs.lemmas.List.{get_or_default}
 use Rattle.std.proofs.lemmas.List.Sorted.{searchable_from_sorted}
 use Rattle.std.proofs.lemmas.Map.{NonePasses, lookup-insert, lookup-none, lookup-set_value, lookup-remove_entry, keys-set_value}
 use Rattle.std.proofs.lemmas.Map.Keys.{IsDistinct-from_sorted}
 use Rattle.std.proofs.lemmas.Map.Lookups.{exact_bytes}
 use Rattle.tg_graph.specs.declared.right_sets.Rights.{Rights}
-use Rattle.tg_graph.specs.Rows.{Edges, IsRow, IsLabel, IsPlaceOf, IsGapFor, Puts}
+use Rattle.tg_graph.specs.Rows.{Edges, IsRow, IsLabel, IsPlaceOf, IsGapFor, AreBelow, AreAbove, Puts}
 use Rattle.tg_graph.proofs.Order.{not_less}
 use Rattle.tg_graph.proofs.Rows.{symm, labelled-puts}
 
@@ -180,3 +181,37 @@ searched row v (Err i) h l parts = record {
     greater = λ k d a b. (parts (searchable row v h)).1 k d a b;
   };
 }
+
+-- ---- a place that one comparison on either side settles
+least : (r : Ordering) → ordering_index r ≤ 0 → r ≡ Less
+least Less h = refl
+least Equal h = absurd (omega arith)
+least Greater h = absurd (omega arith)
+
+most : (r : Ordering) → 2 ≤ ordering_index r → r ≡ Greater
+most Less h = absurd (omega arith)
+most Equal h = absurd (omega arith)
+most Greater h = refl
+
+-- e stands at the place i of the row, and the test of an order tells how it lies to v
+tests_less : (r : Ordering) → is_lt r ≡ true → ordering_index r ≤ 0
+tests_less Less h = omega arith
+tests_less Equal h = absurd (true≢false (sym h))
+tests_less Greater h = absurd (true≢false (sym h))
+
+tests_greater : (r : Ordering) → is_gt r ≡ true → 2 ≤ ordering_index r
+tests_greater Less h = absurd (true≢false (sym h))
+tests_greater Equal h = absurd (true≢false (sym h))
+tests_greater Greater h = omega arith
+
+module _ (row : Edges) (v : List ℕ) (i : ℕ) (e : List ℕ × Rights) (up : IsUp row) (within : i < length row) (is : e ≡ get_or row i e) where
+  at_place : (d : List ℕ × Rights) → ordering_index (name_cmp (get_or row i d).0 v) ≡ ordering_index (name_cmp e.0 v)
+  at_place d = ap (λ (x : List ℕ × Rights). ordering_index (name_cmp x.0 v)) (get_or_default row i d e within ∙ sym is)
+
+  pub below_from_last : (place : ℕ) → place ≡ i + 1 → is_lt (name_cmp e.0 v) ≡ true → AreBelow row v place
+  below_from_last place s t k d b =
+      least (name_cmp (get_or row k d).0 v) (omega (arith, searchable row v up k i d (omega arith) within, at_place d, tests_less _ t))
+
+  pub above_from_first : is_gt (name_cmp e.0 v) ≡ true → AreAbove row v i
+  above_from_first t k d a b =
+      most (name_cmp (get_or row k d).0 v) (omega (arith, searchable row v up i k d a b, at_place d, tests_greater _ t))

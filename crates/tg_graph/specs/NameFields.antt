@@ -19,6 +19,6 @@ length_is len padded h e =
 pub fields_are : (a : Inside) → IsPadded a.padded a.len → fields_of (take a.len a.padded) ≡ a
 fields_are a h = λ i. record { padded = sym h.zeros i; len = length_is a.len a.padded h.within h.zeros i }
 
--- equal names are hashed alike, as one text
-pub equal_hash_alike : (a b : List ℕ) → bytes_eq a b ≡ true → a ∷ [] ≡ b ∷ []
-equal_hash_alike a b e = ap (λ n. n ∷ []) ((bytes_eq-Decides a b).0 e)
+-- equal names are hashed alike, as their padded bytes
+pub equal_hash_alike : (a b : List ℕ) → bytes_eq a b ≡ true → padded_to_16 a ∷ [] ≡ padded_to_16 b ∷ []
+equal_hash_alike a b e = ap (λ n. padded_to_16 n ∷ []) ((bytes_eq-Decides a b).0 e)

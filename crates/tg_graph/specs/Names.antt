@@ -1,5 +1,6 @@
 -- Names as lists of bytes.
 use Rattle.std.specs.Prelude.{◌≡◌, ℕ, ◌+◌, ◌-◌, ◌<◌, ◌≤◌, ◌==◌, Bool, ◌&&◌, ◌||◌, nat_lt, nat_le, List, [], ◌∷◌, ◌++◌, length, replicate, take, decimal, Option, None, Some, Result, Ok, Err, if◌then◌else◌}
+use Rattle.std.specs.Slice.Scan.{big_endian}
 use Rattle.tg_graph.specs.declared.names.NameFault.{NameFault}
 use Rattle.tg_graph.specs.declared.names.NameFault.TheVariants.{Empty, TooLong, BadByte}
 
@@ -37,3 +38,7 @@ pub record IsPadded (padded : List ℕ) (len : ℕ) : Type 0 where
   pub within : len ≤ 16
   pub zeros : padded ≡ padded_to_16 (take len padded)
   pub name : IsName (take len padded)
+
+-- the number that the padded bytes spell, the first byte the highest
+abbrev pub name_number : List ℕ → ℕ
+name_number bytes = big_endian 0 (padded_to_16 bytes)

@@ -54,6 +54,14 @@ pub record IsPlaceOf (row : Edges) (v : List ℕ) (place : ℕ) : Type 0 where
   pub in_range : place < length row
   pub target : (d : List ℕ × Rights) → (slice_index_or row place d).0 ≡ v
 
+-- each target in front of the place is below v
+abbrev pub AreBelow : Edges → List ℕ → ℕ → Type 0
+AreBelow row v place = (k : ℕ) (d : List ℕ × Rights) → k < place → slice_cmp nat_cmp (slice_index_or row k d).0 v ≡ Less
+
+-- each target from the place on is above v
+abbrev pub AreAbove : Edges → List ℕ → ℕ → Type 0
+AreAbove row v place = (k : ℕ) (d : List ℕ × Rights) → place ≤ k → k < length row → slice_cmp nat_cmp (slice_index_or row k d).0 v ≡ Greater
+
 -- an edge to v would go to the place: lesser targets before it, and greater ones from it on
 pub record IsGapFor (row : Edges) (v : List ℕ) (place : ℕ) : Type 0 where
   pub in_range : place ≤ length row

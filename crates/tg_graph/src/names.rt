@@ -4,7 +4,7 @@ ghost use Rattle.std.specs.Ordering.{nat_cmp};
 ghost use Rattle.std.specs.Cmp.{partial_equiv_from_equiv};
 ghost use Rattle.std.specs.Cmp.Lexicographic.{slice_cmp, nat_list_eq_equiv, nat_list_cmp_total, texts_ties, texts_po};
 ghost use Rattle.tg_graph.specs.NameFields.{equal_hash_alike};
-ghost use Rattle.tg_graph.specs.Names.{IsName, name_of, fits_at, first_bad, helper_name, padded_to_16};
+ghost use Rattle.tg_graph.specs.Names.{IsName, name_of, fits_at, first_bad, helper_name, padded_to_16, name_number};
 
 use std::cmp::Ordering;
 use std::hash::{Hash, Hasher};
@@ -138,6 +138,15 @@ impl Name {
         }
     }
 
+    // The padded bytes as one number, the first byte the highest. Names are ordered as these numbers
+    // are.
+    fn number(&self) -> u128
+        ensures value { result ≡ name_number self.now }
+        ensures valid { IsName self.now }
+    {
+        u128::from_be_bytes(self.padded)
+    }
+
     /// The bytes of the name.
     pub fn as_bytes(&self) -> &[u8]
         ensures value { result.now ≡ self.now }
@@ -153,7 +162,7 @@ impl PartialEq for Name {
     ghost laws = { partial_equiv_from_equiv nat_list_eq_equiv };
 
     fn eq(&self, other: &Name) -> bool {
-        self.as_bytes() == other.as_bytes()
+        self.number() == other.number()
     }
 }
 
@@ -181,16 +190,16 @@ impl Ord for Name {
     ghost matches_eq = { texts_ties };
 
     fn cmp(&self, other: &Name) -> Ordering {
-        self.as_bytes().cmp(other.as_bytes())
+        self.number().cmp(&other.number())
     }
 }
 
 impl Hash for Name {
-    ghost hash_input = { λ n. n ∷ [] };
+    ghost hash_input = { λ n. padded_to_16 n ∷ [] };
 
     ghost respects_eq = { equal_hash_alike };
 
     fn hash<H: Hasher>(&self, state: &mut H) {
-        state.write(self.as_bytes());
+        state.write(&self.padded);
     }
 }

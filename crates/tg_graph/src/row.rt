@@ -1,8 +1,8 @@
 //! The edges out of one vertex.
-ghost use Rattle.std.specs.Prelude.{◌≡◌, Some, None, ◌<◌, [], IfOk, IfErr, OnOk, OnErr, bytes_eq, length, slice_get};
+ghost use Rattle.std.specs.Prelude.{◌≡◌, true, Some, None, ◌<◌, ◌≤◌, [], IfOk, IfErr, OnOk, OnErr, bytes_eq, length, slice_get};
 ghost use Rattle.std.specs.Map.{lookup};
 ghost use Rattle.tg_graph.specs.Sets.{IsNamed};
-ghost use Rattle.tg_graph.specs.Rows.{label_in, IsLabel, IsRow, Puts, Adds, TakesAway, IsPlaceOf, IsGapFor};
+ghost use Rattle.tg_graph.specs.Rows.{label_in, IsLabel, IsRow, Puts, Adds, TakesAway, IsPlaceOf, IsGapFor, AreBelow, AreAbove};
 
 use crate::names::Name;
 use crate::right_sets::Rights;
@@ -14,6 +14,9 @@ use std::marker::Model;
 #[derive(Drop)]
 pub struct Row {
     edges: Vec<(Name, Rights)>,
+    // The place behind the edge that was put in last, where the next one mostly goes. It decides no
+    // answer.
+    next: usize,
 }
 
 impl Model for Row {
@@ -37,6 +40,7 @@ impl Clone for Row {
     fn clone(&self) -> Result<Row, AllocError> {
         Ok(Row {
             edges: Vec::from_slice(*self.edges.allocator(), self.edges.as_slice())?,
+            next: self.next,
         })
     }
 }
@@ -48,6 +52,7 @@ impl Row {
     {
         Row {
             edges: Vec::new(alloc),
+            next: 0,
         }
     }
 
@@ -73,6 +78,52 @@ impl Row {
         ensures row { IsRow self.now }
     {
         self.edges.binary_search_by_key(&y, |&(target, _)| target)
+    }
+
+    // Whether each target in front of the place is below y.
+    fn is_above(&self, place: usize, y: Name) -> bool
+        requires { place ≤ length self.now }
+        ensures { result ≡ true → AreBelow self.now y place }
+    {
+        if place == 0 {
+            return true;
+        }
+        self.edges[place - 1].0.cmp(&y).is_lt()
+    }
+
+    // Whether each target from the place on is above y.
+    fn is_below(&self, place: usize, y: Name) -> bool
+        requires { place ≤ length self.now }
+        ensures { result ≡ true → AreAbove self.now y place }
+    {
+        if place == self.edges.len() {
+            return true;
+        }
+        self.edges[place].0.cmp(&y).is_gt()
+    }
+
+    // Whether the place is a gap for an edge to y.
+    fn is_gap(&self, place: usize, y: Name) -> bool
+        ensures gap { result ≡ true → IsGapFor self.now y place }
+        ensures row { IsRow self.now }
+    {
+        if place > self.edges.len() {
+            return false;
+        }
+        self.is_above(place, y) && self.is_below(place, y)
+    }
+
+    /// The same as `place`, found at once where the edge goes behind the one that was put in last.
+    pub fn place_of_next(&self, y: Name) -> Result<usize, usize>
+        ensures found { IfOk result (IsPlaceOf self.now y) }
+        ensures absent { IfErr result (IsGapFor self.now y) }
+        ensures row { IsRow self.now }
+    {
+        if self.is_gap(self.next, y) {
+            Err(self.next)
+        } else {
+            self.place(y)
+        }
     }
 
     // The label of the edge to y, which is at the place.
@@ -114,6 +165,7 @@ impl Row {
         ensures row { IsRow self.new }
     {
         self.edges.insert(place, (y, label))?;
+        self.next = place + 1;
         Ok(())
     }
 
