@@ -5,7 +5,7 @@ ghost use Rattle.tg_graph.specs.Drafts.{Fits};
 
 use crate::draft::Draft;
 use crate::names::{Name, NameFault};
-use crate::protection::Graph;
+use crate::protection::{EdgeFault, Graph, VertexFault};
 use crate::right_sets::{Right, Rights};
 use crate::rules::{Refusal, RuleFault};
 use crate::test_values::{create, grant, name, remove, set, take, three};
@@ -49,7 +49,18 @@ fn rules_checked(rt: HostRuntime) -> Result<(), Fail> {
     Ok(())
 }
 
-// A rule that is refused takes no memory, and is refused as with ample memory.
+// The other refusals come before that for want of memory.
+#[test]
+fn additions_refused(rt: HostRuntime) -> Result<(), Fail> {
+    let mut g = three(&rt, rt.alloc())?;
+    let (a, b, z) = (name(&rt, b"a"), name(&rt, b"b"), name(&rt, b"z"));
+    assert!(rt; g.add_vertex(a) == Err(VertexFault::Taken));
+    assert!(rt; g.add_edge(a, z, set(&rt, b"r")) == Err(EdgeFault::Unknown(z)));
+    assert!(rt; g.add_edge(a, b, set(&rt, b"-")) == Err(EdgeFault::EdgeThere));
+    assert!(rt; g.add_edge(b, a, set(&rt, b"-")) == Err(EdgeFault::Empty));
+    Ok(())
+}
+
 #[test]
 fn rules_refused(rt: HostRuntime) -> Result<(), Fail> {
     let mut g = three(&rt, rt.alloc())?;
