@@ -2,6 +2,8 @@
 # make examples   compares what each example prints with what is stored beside it
 # make test       the merge gate: every proof from nothing, the wrong bodies, the tests, the program;
 #                 some 40 minutes on four cores
+# make refusals   the memory tests with each request for memory refused in turn: seconds, once the
+#                 gate or rt test has built the tests
 # make man        the manual page
 # make bench      time and peak memory of each command on heavy inputs
 # make races      races of 16 seats, each report compared with a small model's
@@ -10,7 +12,7 @@ OFFICER = crates/officer/out/officer
 FILES = examples/file_service
 GRAPH = $(FILES).graph
 
-.PHONY: build demo examples test man bench races
+.PHONY: build demo examples test refusals man bench races
 
 build:
 	@echo "Proving and building officer and the crates below it: some six minutes on four cores from nothing, seconds after that."
@@ -43,6 +45,9 @@ examples: build
 
 test:
 	@rt ci
+
+refusals:
+	@python3 checks/refusals.py
 
 man:
 	@man ./docs/officer.1

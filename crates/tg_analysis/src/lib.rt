@@ -7,6 +7,8 @@ mod chains;
 #[cfg(test)]
 mod derivation_tests;
 mod derivations;
+#[cfg(test)]
+mod famine_tests;
 mod flooding;
 mod gates;
 mod gathering;

@@ -1,5 +1,5 @@
-// Each test passes whichever one request for memory is refused: `rt try --test --fail-alloc N --
-// memory_tests`, for N from 1 on. Where a call was refused memory, its second try has it.
+// Each test passes whichever one request for memory is refused, which `make refusals` tries. Where a
+// call was refused memory, its second try has it.
 ghost use Rattle.tg_graph.specs.Sets.{IsNamed};
 
 use crate::answers::can_share;
@@ -55,26 +55,31 @@ fn refused_islands(rt: HostRuntime) -> Result<(), Fail> {
     Ok(())
 }
 
-// Whether _0 can come to have r over _2.
-fn asked(rt: &impl Abort, alloc: Global, graph: &Graph) -> Result<bool, AskFault> {
+// Whether _0 can come to have the right over _2.
+fn asked(rt: &impl Abort, alloc: Global, graph: &Graph, right: Right) -> Result<bool, AskFault> {
     let (x, y) = (Name::helper(0), Name::helper(2));
-    match can_share(alloc, graph, Right::R, x, y) {
+    match can_share(alloc, graph, right, x, y) {
         Ok(answer) => Ok(answer),
         Err(fault) => {
             assert!(rt; fault == AskFault::Memory);
-            can_share(alloc, graph, Right::R, x, y)
+            can_share(alloc, graph, right, x, y)
         }
     }
 }
 
 // By which rules.
-fn derived(rt: &impl Abort, alloc: Global, graph: &Graph) -> Result<Option<Vec<Rule>>, AskFault> {
+fn derived(
+    rt: &impl Abort,
+    alloc: Global,
+    graph: &Graph,
+    right: Right,
+) -> Result<Option<Vec<Rule>>, AskFault> {
     let (x, y) = (Name::helper(0), Name::helper(2));
-    match derivation(alloc, graph, Right::R, x, y) {
+    match derivation(alloc, graph, right, x, y) {
         Ok(rules) => Ok(rules),
         Err(fault) => {
             assert!(rt; fault == AskFault::Memory);
-            derivation(alloc, graph, Right::R, x, y)
+            derivation(alloc, graph, right, x, y)
         }
     }
 }
@@ -82,12 +87,21 @@ fn derived(rt: &impl Abort, alloc: Global, graph: &Graph) -> Result<Option<Vec<R
 #[test]
 fn refused_questions(rt: HostRuntime) -> Result<(), Fail> {
     let graph = three(rt.alloc())?;
-    assert!(rt; asked(&rt, rt.alloc(), &graph)?);
-    let Some(rules) = derived(&rt, rt.alloc(), &graph)? else {
+    assert!(rt; asked(&rt, rt.alloc(), &graph, Right::R)?);
+    let Some(rules) = derived(&rt, rt.alloc(), &graph, Right::R)? else {
         assert!(rt; false);
         return Ok(());
     };
     assert!(rt; rules.len() == 4);
+    Ok(())
+}
+
+// Want of memory is no answer: nobody has w.
+#[test]
+fn refused_questions_with_a_no(rt: HostRuntime) -> Result<(), Fail> {
+    let graph = three(rt.alloc())?;
+    assert!(rt; !asked(&rt, rt.alloc(), &graph, Right::W)?);
+    assert!(rt; derived(&rt, rt.alloc(), &graph, Right::W)?.is_none());
     Ok(())
 }
 

@@ -1,5 +1,5 @@
-// Each test passes whichever one request for memory is refused: `rt try --test --fail-alloc N --
-// draft_memory_tests`, for N from 1 on. Where a call was refused memory, its second try has it.
+// Each test passes whichever one request for memory is refused, which `make refusals` tries. Where a
+// call was refused memory, its second try has it.
 ghost use Rattle.tg_graph.specs.Sets.{IsNamed};
 ghost use Rattle.tg_graph.specs.Rules.{rights_of};
 ghost use Rattle.tg_graph.specs.Drafts.{Fits};

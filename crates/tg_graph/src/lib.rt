@@ -7,6 +7,8 @@ mod draft;
 mod draft_memory_tests;
 #[cfg(test)]
 mod draft_tests;
+#[cfg(test)]
+mod famine_tests;
 pub mod laws;
 mod limits;
 #[cfg(test)]

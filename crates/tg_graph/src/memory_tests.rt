@@ -1,5 +1,5 @@
-// Each test passes whichever one request for memory is refused: `rt try --test --fail-alloc N --
-// memory_tests`, for N from 1 on. Where a call was refused memory, its second try has it.
+// Each test passes whichever one request for memory is refused, which `make refusals` tries. Where a
+// call was refused memory, its second try has it.
 ghost use Rattle.tg_graph.specs.Sets.{IsNamed};
 ghost use Rattle.tg_graph.specs.Rules.{rights_of};
 
@@ -123,6 +123,43 @@ fn refused_rules(rt: HostRuntime) -> Result<(), Fail> {
     applies(&rt, &mut g, rule_at(0))?;
     applies(&rt, &mut g, rule_at(1))?;
     assert!(rt; g.len() == 2 && g.row_len(0) == 2 && g.row_len(1) == 1);
+    Ok(())
+}
+
+// _0 takes g over _1 from itself, which changes nothing.
+fn take_again() -> Rule
+    ensures { IsNamed (rights_of result) }
+{
+    let (x, y, _) = names();
+    Rule::Take {
+        x,
+        y: x,
+        z: y,
+        rights: Rights::of(Right::G),
+    }
+}
+
+// _0 gives up g over _1.
+fn give_up() -> Rule
+    ensures { IsNamed (rights_of result) }
+{
+    let (x, y, _) = names();
+    Rule::Remove {
+        x,
+        y,
+        rights: Rights::of(Right::G),
+    }
+}
+
+// A row that a copy shares is copied before it changes.
+#[test]
+fn refused_changes_of_shared_rows(rt: HostRuntime) -> Result<(), Fail> {
+    let mut g = Graph::new(rt.alloc());
+    one(&rt, &mut g)?;
+    applies(&rt, &mut g, rule_at(0))?;
+    applies(&rt, &mut g, take_again())?;
+    applies(&rt, &mut g, give_up())?;
+    assert!(rt; g.len() == 2 && g.row_len(0) == 1);
     Ok(())
 }
 

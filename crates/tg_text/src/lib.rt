@@ -3,6 +3,8 @@
 
 mod canonical;
 #[cfg(test)]
+mod famine_tests;
+#[cfg(test)]
 mod fault_tests;
 mod faults;
 mod graph_text;

@@ -1,8 +1,8 @@
-// Each test passes whichever one request for memory is refused: `rt try --test --fail-alloc N --
-// memory_tests`, for N from 1 on. Where a call was refused memory, its second try has it.
+// Each test passes whichever one request for memory is refused, which `make refusals` tries. Where a
+// call was refused memory, its second try has it.
 use crate::{
-    TextFault, append_number, append_reply, read_graph, read_rule, read_rules, read_script,
-    write_graph, write_reply, write_rule,
+    TextFault, TextKind, append_number, append_reply, names_in_order, read_graph, read_rule,
+    read_rules, read_script, write_graph, write_reply, write_rule,
 };
 use std::alloc::{AllocError, Global};
 use std::process::Abort;
@@ -37,7 +37,24 @@ fn refused_graph(rt: HostRuntime) -> Result<(), Fail> {
     let graph = graph(&rt, rt.alloc())?;
     let text = written(rt.alloc(), &graph)?;
     assert!(rt; text.as_slice() == GRAPH);
+    let names = match names_in_order(rt.alloc(), &graph) {
+        Ok(names) => names,
+        Err(AllocError) => names_in_order(rt.alloc(), &graph)?,
+    };
+    assert!(rt; names.len() == 2);
     Ok(())
+}
+
+// Memory may run out before the reader comes to the fault, and the fault is the same then.
+#[test]
+fn refused_before_a_fault(rt: HostRuntime) {
+    let text = b"vertex a\nvertex b\nedge a b r\nedge a b w\n";
+    let fault = match read_graph(rt.alloc(), text) {
+        Err(TextFault::Memory) => read_graph(rt.alloc(), text).err(),
+        read => read.err(),
+    };
+    let (line, kind) = (4, TextKind::DuplicateEdge);
+    assert!(rt; fault == Some(TextFault::At { line, kind }));
 }
 
 #[test]
