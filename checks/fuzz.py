@@ -11,8 +11,7 @@ swapped, words replaced, numbers put at their limits. The kinds of cases:
   and the right is there then; `share` says of a pair what its cell in the table says.
 - `race`: with one seat it prints what `run` prints; else the report obeys the laws of a race.
 - `words`: a command line has one of the forms, or it is a bad one.
-- `limits`: texts with as many vertices, rules, events, cells, seats or bytes in a line as there may
-  be, or one more.
+- `limits`: texts with as many vertices, rules, events or commits as there may be, or one more.
 
 The seed is printed first. A case is known by the seed and its number: --seed and --case repeat it
 alone. What a failed case was run on is kept in a folder that is named. The status is 1 then.

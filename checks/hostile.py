@@ -5,12 +5,12 @@ hostile.py PROGRAM [--only TEXT] [--keep FOLDER] [--jobs N] [--list]. For each c
 files that are directories, missing, not to be read, empty, as large as an input may be or larger,
 endless, noise or one long line; outputs that are closed, full or left by their reader; standard
 inputs that are closed or directories; words that are too many, too long, empty or no text; and
-limits on memory and threads.
+limits on memory, stack and threads.
 
 Each case says which endings are allowed: a report that is whole, with its status, or one message
 with its status. A run that ends by a signal, or not in time, or with a status and only a part of
-the report, fails. What a whole report is, a small model of the texts says, or for a large input a
-run without hindrance; a race's report has to obey the laws of races.
+the report, fails. What a whole report is, a small model of the texts says; a race's report has to
+obey the laws of races.
 
 --only runs the cases whose titles have the text, --keep leaves the files in a folder, --list only
 prints the titles. The last line is `N cases, M failures`; the status is 1 where a case failed.
@@ -34,7 +34,8 @@ from hostile_cases.runs import LONGEST_RUN, Case, Hindrance, Lawful, play, shown
 
 # The status of the system's loader where it can't load a program.
 NOT_LOADED = 127
-AMPLE = 16_384 * MIB
+# Each job may hold an input as large as may be, several times.
+MOST_JOBS = 8
 
 KINDS = [
     files.graph_cases,
@@ -50,8 +51,10 @@ KINDS = [
     words.bad_line_cases,
     words.untold_word_cases,
     words.question_cases,
-    words.long_word_cases,
+    words.long_path_cases,
+    words.many_word_cases,
     limits.memory_cases,
+    limits.stack_cases,
     limits.large_graph_cases,
     limits.large_second_cases,
     limits.thread_cases,
@@ -71,7 +74,7 @@ def why_not(program, cases):
     """What cases are left out on this system: why, and the hindrances that can't be had."""
     if not is_possible(program, Hindrance(is_other_user=True)):
         yield "another user can't run the program here", lambda it: it.is_other_user
-    for memory in sorted({case.hindrance.memory or AMPLE for case in cases}):
+    for memory in sorted({case.hindrance.memory for case in cases} - {None}):
         if not is_possible(program, Hindrance(memory=memory)):
             why = f"the program can't be loaded in {memory // MIB} MiB here"
             yield why, lambda it, memory=memory: it.memory == memory
@@ -174,7 +177,7 @@ def main():
     options.add_argument("program")
     options.add_argument("--only", default="", metavar="TEXT")
     options.add_argument("--keep", metavar="FOLDER", help="a new folder for the files")
-    options.add_argument("--jobs", type=int, default=os.cpu_count())
+    options.add_argument("--jobs", type=int, default=min(os.cpu_count(), MOST_JOBS))
     options.add_argument("--list", action="store_true")
     given = options.parse_args()
     if given.keep:

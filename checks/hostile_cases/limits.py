@@ -1,4 +1,4 @@
-"""Limits on memory and threads."""
+"""Limits on memory, stack and threads."""
 import os
 import random
 from dataclasses import replace
@@ -30,6 +30,14 @@ def memory_cases(files):
             allowed = [told, Says("memory")]
             yield memory_case(title, memory, it.words(), allowed, it.given())
         yield memory_case(title, AMPLE_MEMORY, it.words(), [it.ending], it.given())
+
+
+def stack_cases(files):
+    """A stack that is small, and large enough."""
+    for size, it in all_loads(files):
+        hindrance = Hindrance(given=it.given(), stack=MIB // 4)
+        title = f"{title_of(it.command)}: a {size} load, 256 KiB of stack"
+        yield Case(title, it.words(), [it.ending], hindrance)
 
 
 def large_graph_cases(files):

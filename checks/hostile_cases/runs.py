@@ -10,6 +10,7 @@ from dataclasses import dataclass, field, fields
 
 from model.races import fault_of
 
+WIDE_STACK = resource.RLIM_INFINITY
 # A user who owns nothing and runs nothing.
 OTHER_USER = 61_234
 LONGEST_RUN = 30
@@ -141,7 +142,7 @@ class Hindrance:
     threads: int = None
     file_size: int = None
     is_other_user: bool = False
-    has_wide_stack: bool = False
+    stack: int = None
 
     def __str__(self):
         told = ((it.name, it.default, getattr(self, it.name)) for it in fields(self))
@@ -152,15 +153,18 @@ class Hindrance:
         for number, stream in enumerate((self.given, self.output, self.complaint)):
             if stream == "closed":
                 os.close(number)
-        if self.has_wide_stack:
-            resource.setrlimit(resource.RLIMIT_STACK, (resource.RLIM_INFINITY,) * 2)
         if self.file_size is not None:
             signal.signal(signal.SIGXFSZ, signal.SIG_IGN)
-            resource.setrlimit(resource.RLIMIT_FSIZE, (self.file_size,) * 2)
-        if self.threads is not None:
-            resource.setrlimit(resource.RLIMIT_NPROC, (self.threads,) * 2)
-        if self.memory is not None:
-            resource.setrlimit(resource.RLIMIT_AS, (self.memory,) * 2)
+        # (memory last, since Python goes on under it)
+        limits = {
+            resource.RLIMIT_STACK: self.stack,
+            resource.RLIMIT_FSIZE: self.file_size,
+            resource.RLIMIT_NPROC: self.threads,
+            resource.RLIMIT_AS: self.memory,
+        }
+        for limit, value in limits.items():
+            if value is not None:
+                resource.setrlimit(limit, (value, value))
 
     def user(self):
         """The words for a process of another user, none where this one is not to be left."""

@@ -3,7 +3,7 @@ import shlex
 from itertools import product
 
 from hostile_cases.commands import COMMANDS, GRAPH, MIB, QUESTION, ending_for, title_of, words_for
-from hostile_cases.runs import Case, Hindrance, Says
+from hostile_cases.runs import WIDE_STACK, Case, Hindrance, Says
 
 MOST_WORD_BYTES = 131_071
 LONG_WORD = b"a" * MOST_WORD_BYTES
@@ -67,19 +67,21 @@ def question_cases(files):
         yield Case(title, [command, graph, *further], [ending])
 
 
-def long_word_cases(files):
-    """Long words for files, and more words than any command has."""
+def long_path_cases(files):
+    """A word for a file that is as long as a word may be."""
     for command in COMMANDS[1:]:
         words = words_for(command, LONG_WORD, files.path("graph"))
         yield Case(f"words: {title_of(command)} with a long path", words, [Says("graph")])
+
+
+def many_word_cases(_):
+    """More words than any command has, and as many long ones as the system hands over."""
     for count in (6, 256, 10_000):
         yield Case(f"words: {count} times check", [b"check"] * count, [Says("words")])
-    # (the system hands over 6 MiB at most, and less where the stack is limited)
-    for count in (1, 5, 15, 46):
-        title, words = f"words: {count} of 131,071 bytes", [LONG_WORD] * count
-        yield Case(title, words, [Says("words")], Hindrance(has_wide_stack=True))
-        for more in (6, 8, 16):
-            memory = count * MOST_WORD_BYTES + more * MIB
-            hindrance = Hindrance(has_wide_stack=True, memory=memory)
-            name = f"{title}, and {more} MiB of memory more"
-            yield Case(name, words, [Says("words"), Says("memory")], hindrance)
+    # (that is 6 MiB, and less where the stack is limited)
+    for count, more in product((1, 5, 15, 46), (6, 8, 16, None)):
+        memory = count * MOST_WORD_BYTES + more * MIB if more else None
+        title = f"words: {count} of 131,071 bytes" + (f", {more} MiB of memory" if more else "")
+        allowed = [Says("words"), Says("memory")] if more else [Says("words")]
+        hindrance = Hindrance(stack=WIDE_STACK, memory=memory)
+        yield Case(title, [LONG_WORD] * count, allowed, hindrance)

@@ -8,7 +8,6 @@ from itertools import count
 
 LETTERS = "tgrwe"
 MOST_VERTICES = 1024
-RULES = ("take", "grant", "create", "remove")
 QUESTIONS = ("holds", "share")
 
 
@@ -138,17 +137,11 @@ class Graph:
 
     def chain(self, right, x, y):
         """The vertices from a holder of the right over y to x, found breadth first, or None."""
-        linked, towards_x, queue = self.neighbours(), {x: None}, deque([x])
-        while queue:
-            vertex = queue.popleft()
+        met_by = {}
+        for vertex, earlier in breadth_first(self.neighbours(), x):
+            met_by[vertex] = earlier
             if right in self.rights(vertex, y):
-                chain = [vertex]
-                while towards_x[chain[-1]] is not None:
-                    chain.append(towards_x[chain[-1]])
-                return chain
-            for other in sorted(linked[vertex] - towards_x.keys()):
-                towards_x[other] = vertex
-                queue.append(other)
+                return followed(met_by, vertex)
         return None
 
     def move(self, q, p, helper, goal):
@@ -178,11 +171,26 @@ class Graph:
         return rules
 
 
+def breadth_first(linked, start):
+    """All that chains of links reach from a vertex, each with the one by which it was met."""
+    met_by, queue = {start: None}, deque([start])
+    while queue:
+        vertex = queue.popleft()
+        yield vertex, met_by[vertex]
+        new = sorted(linked[vertex] - met_by.keys())
+        met_by.update(dict.fromkeys(new, vertex))
+        queue.extend(new)
+
+
 def reached(linked, start):
     """All that chains of links reach from a vertex, itself included."""
-    met, left = {start}, [start]
-    while left:
-        new = linked[left.pop()] - met
-        met |= new
-        left.extend(new)
-    return met
+    return {vertex for vertex, _ in breadth_first(linked, start)}
+
+
+def followed(met_by, vertex):
+    """The chain from a vertex back to where a search began."""
+    chain = []
+    while vertex is not None:
+        chain.append(vertex)
+        vertex = met_by[vertex]
+    return chain

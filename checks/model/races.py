@@ -1,10 +1,16 @@
 """The laws of a race's report: its sessions are those of one history, one after another."""
+import re
 from dataclasses import dataclass, field
 
 from model.graphs import MOST_VERTICES
 from model.sessions import creates, spoiled_name
 
-REFUSED_COMMITS = ("refused changed ", "refused crowded ", "refused journal-full")
+PLACE = r"(0|[1-9][0-9]*)"
+# What a commit may come to, want of memory aside.
+COMMITTED = re.compile(
+    rf"done {PLACE}|refused changed {PLACE} [a-z0-9_]+|refused crowded {PLACE}"
+    r"|refused journal-full"
+)
 NO_MEMORY = "refused memory"
 
 
@@ -41,8 +47,9 @@ class Session:
     def place(self):
         """The place that its ending names, or None."""
         words = self.ending.split()
-        place = words[1] if self.is_put() else words[2] if len(words) > 2 else None
-        return None if place is None or self.is_given_up() else int(place)
+        if self.is_given_up() or words[-1] == "journal-full":
+            return None
+        return int(words[1] if self.is_put() else words[2])
 
     def least_after(self):
         """How many records its seat has at least taken in once it has ended."""
@@ -76,10 +83,9 @@ def is_ended(session, words, outcome):
     """Whether an event ends the open session. Its step or outcome joins the session."""
     kind = words[0]
     if kind in ("abort", "commit") and outcome != NO_MEMORY:
-        session.ending = outcome
-        is_known = outcome == "done" if kind == "abort" else outcome.startswith("done ")
-        is_known = is_known or kind == "commit" and outcome.startswith(REFUSED_COMMITS)
+        is_known = outcome == "done" if kind == "abort" else COMMITTED.fullmatch(outcome)
         require(is_known, f"{kind}: {outcome}")
+        session.ending = outcome
         return True
     if kind == "begin":
         require(outcome == "refused already-open", f"begin: {outcome} where a session is open")
