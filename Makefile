@@ -7,12 +7,14 @@
 # make man        the manual page
 # make bench      time and peak memory of each command on heavy inputs
 # make races      races of 16 seats, each report compared with a small model's
+# make hostile    the program with bad files, outputs and words, and little memory; half a minute
+# make fuzz       the program on random texts for a minute, each answer compared with a small model's
 
 OFFICER = crates/officer/out/officer
 FILES = examples/file_service
 GRAPH = $(FILES).graph
 
-.PHONY: build demo examples test refusals man bench races
+.PHONY: build demo examples test refusals man bench races hostile fuzz
 
 build:
 	@echo "Proving and building officer and the crates below it: some six minutes on four cores from nothing, seconds after that."
@@ -56,4 +58,10 @@ bench: build
 	@python3 bench/bench.py $(OFFICER)
 
 races: build
-	@python3 bench/races.py $(OFFICER)
+	@python3 checks/races.py $(OFFICER)
+
+hostile: build
+	@python3 checks/hostile.py $(OFFICER)
+
+fuzz: build
+	@python3 checks/fuzz.py $(OFFICER)

@@ -1,0 +1,117 @@
+#!/usr/bin/env python3
+"""Runs a program on random texts and words, and compares its answers with a small model's.
+
+fuzz.py PROGRAM [--seconds 60] [--seed N] [--case N] [--jobs N]. Each case makes a graph, and rules
+or a script or words for it. Often it spoils them: bytes are flipped, lines dropped, doubled or
+swapped, words replaced, numbers put at their limits. The kinds of cases:
+
+- `check`, `case`, `apply`, `islands`, `share`, `derive`, `table`, `run`: report and status are the
+  model's, which reads docs/TEXTS.md alone; so the first fault, its line and its kind are, too.
+- besides, `check` prints what it printed again; `apply` accepts each rule that `derive` printed,
+  and the right is there then; `share` says of a pair what its cell in the table says.
+- `race`: with one seat it prints what `run` prints; else the report obeys the laws of a race.
+- `words`: a command line has one of the forms, or it is a bad one.
+- `limits`: texts with as many vertices, rules, events or commits as there may be, or one more.
+
+The seed is printed first. A case is known by the seed and its number: --seed and --case repeat it
+alone. What a failed case was run on is kept in a folder that is named. The status is 1 then.
+"""
+import argparse
+import os
+import subprocess
+import sys
+import tempfile
+import time
+from collections import Counter
+from concurrent.futures import ProcessPoolExecutor
+from random import Random, SystemRandom
+
+from fuzz_cases.comparing import KINDS, LONGEST_RUN, Failure, Program
+from fuzz_cases.making import Maker
+
+SHOWN_BYTES = 1_500
+KEPT_FAILURES = 5
+
+
+def kind_of(chance):
+    """The kind of a case."""
+    weights = [weight for _, weight in KINDS.values()]
+    return chance.choices(list(KINDS), weights)[0]
+
+
+def shown(answer):
+    """An answer as text, its middle left out where it is long."""
+    text = repr(answer)
+    if len(text) <= SHOWN_BYTES:
+        return text
+    return f"{text[:SHOWN_BYTES - 300]} .. {text[-300:]}"
+
+
+def failure_in(path, folder, seed, number):
+    """Plays a case in a folder. It answers its kind, and what failed as text or None."""
+    chance = Random(f"{seed} {number}")
+    kind, program = kind_of(chance), Program(path, folder)
+    try:
+        KINDS[kind][0](program, Maker(chance))
+        return kind, None
+    except Failure as failure:
+        what, told, wanted = failure.args
+        fault = f"{what}\n  answered {shown(told)}\n  wanted   {shown(wanted)}"
+    except subprocess.TimeoutExpired as late:
+        fault = f"{late.cmd} had not ended in {LONGEST_RUN} seconds"
+    kept = os.path.join(tempfile.gettempdir(), f"fuzz-{seed}-{number}")
+    program.keep(kept)
+    again = f"texts and words in {kept}; again: --seed {seed} --case {number}"
+    return kind, f"{kind}: {fault}\n  {again}"
+
+
+def play(path, seed, numbers, seconds):
+    """Plays the cases of these numbers until the time is over: counts by kind, and failures."""
+    counts, failures, end = Counter(), [], time.monotonic() + seconds
+    with tempfile.TemporaryDirectory() as folder:
+        for number in numbers:
+            kind, failure = failure_in(path, folder, seed, number)
+            counts[kind] += 1
+            failures += [failure] if failure else []
+            if time.monotonic() > end or len(failures) >= KEPT_FAILURES:
+                break
+    return counts, failures
+
+
+def play_all(path, seed, seconds, jobs):
+    """Plays cases side by side: counts by kind, and the failures."""
+    with ProcessPoolExecutor(jobs) as pool:
+        shares = [range(first, sys.maxsize, jobs) for first in range(jobs)]
+        lanes = [pool.submit(play, path, seed, share, seconds) for share in shares]
+        results = [lane.result() for lane in lanes]
+    counts = sum((counts for counts, _ in results), Counter())
+    return counts, [failure for _, failures in results for failure in failures]
+
+
+def main():
+    """Fuzzes as the command line says."""
+    options = argparse.ArgumentParser(
+        description=__doc__, formatter_class=argparse.RawDescriptionHelpFormatter
+    )
+    options.add_argument("program")
+    options.add_argument("--seconds", type=float, default=60)
+    options.add_argument("--seed", type=int, help="repeats the cases of that seed")
+    options.add_argument("--case", type=int, help="plays that case alone")
+    options.add_argument("--jobs", type=int, default=os.cpu_count())
+    given = options.parse_args()
+    seed = SystemRandom().randrange(10**9) if given.seed is None else given.seed
+    print(f"seed {seed}", flush=True)
+    path = os.path.abspath(given.program)
+    if given.case is not None:
+        counts, failures = play(path, seed, [given.case], 0)
+    else:
+        counts, failures = play_all(path, seed, given.seconds, given.jobs)
+    for failure in failures:
+        print(failure)
+    print(", ".join(f"{kind} {counts[kind]}" for kind in KINDS if counts[kind]))
+    print(f"{sum(counts.values())} cases, {len(failures)} failures")
+    sys.exit(1 if failures else 0)
+
+
+if __name__ == "__main__":
+    main()

@@ -1,0 +1,220 @@
+"""The kinds of cases: what the program is run on, and what its answer is compared with."""
+import os
+import subprocess
+
+from model.races import fault_of
+from model.reports import WITH_SECOND_FILE, is_call, race_refusal, report_of
+from model.texts import read_graph, read_script
+
+LONGEST_RUN = 20
+BAD_WORDS = (b"", b"officer: bad command line\n", 2)
+
+
+class Failure(Exception):
+    """Two answers that are not the same: what was compared, the program's and the one wanted."""
+
+
+class Program:
+    """The program, run in a folder of its own on texts that stand there as files."""
+
+    def __init__(self, path, folder):
+        self.path = path
+        self.folder = folder
+        self.texts = {}
+        self.runs = []
+
+    def write(self, name, text):
+        """Writes a text, and answers its path as a word."""
+        self.texts[name] = text
+        path = os.path.join(self.folder, name)
+        with open(path, "wb") as file:
+            file.write(text)
+        return os.fsencode(path)
+
+    def answer(self, words, given=None):
+        """Output, standard error and status for words and the name of standard input's text."""
+        self.runs.append(words)
+        given = os.path.join(self.folder, given) if given else os.devnull
+        with open(given, "rb") as standard_input:
+            ran = subprocess.run(
+                [self.path, *words],
+                cwd=self.folder,
+                stdin=standard_input,
+                capture_output=True,
+                timeout=LONGEST_RUN,
+                check=False,
+            )
+        return ran.stdout, ran.stderr, ran.returncode
+
+    def report(self, command, first, second=None, further=()):
+        """The answer to a command for its texts, with the words that follow them."""
+        words = [command, self.write("graph", first)]
+        if second is not None:
+            words.append(self.write("second", second))
+        return self.answer([*words, *further])
+
+    def keep(self, folder):
+        """Keeps the texts and the words of the runs in a new folder."""
+        os.makedirs(folder, exist_ok=True)
+        runs = "".join(repr([self.path, *words]) + "\n" for words in self.runs)
+        for name, text in {**self.texts, "runs": runs.encode()}.items():
+            with open(os.path.join(folder, name), "wb") as file:
+                file.write(text)
+
+
+def require_same(what, told, wanted):
+    """Requires two answers to be the same."""
+    if told != wanted:
+        raise Failure(what, told, wanted)
+
+
+def require_report(program, command, texts, further=()):
+    """Requires the report of a command to be the model's: its text, or None for a refusal."""
+    told = program.report(command, *texts, further=further)
+    words = [command, *(b"file" for _ in texts), *further]
+    text, status = report_of(words, *texts)
+    require_same(command.decode(), told, (text, b"", status))
+    return text if status == 0 else None
+
+
+# the kinds of cases
+
+
+def check_case(program, make):
+    """`check`, and `check` of what it printed."""
+    text = require_report(program, b"check", [make.spoil.text(make.graph_text())])
+    if text is not None:
+        require_same("check of check", program.report(b"check", text), (text, b"", 0))
+
+
+def case_case(program, make):
+    """No words."""
+    given = make.spoil.text(make.case_text())
+    program.write("standard_input", given)
+    text, status = report_of([], given)
+    require_same("no words", program.answer([], "standard_input"), (text, b"", status))
+
+
+def apply_case(program, make):
+    """`apply`."""
+    graph, rules = make.graph_and_rules()
+    texts = make.spoil.one_of([graph, rules])
+    require_report(program, b"apply", texts)
+
+
+def islands_case(program, make):
+    """`islands`."""
+    require_report(program, b"islands", [make.spoil.text(make.graph_text(), 0.2)])
+
+
+def share_case(program, make):
+    """`share`."""
+    question = [make.spoil.word(word) for word in make.question()]
+    require_report(program, b"share", [make.spoil.text(make.graph_text(), 0.1)], question)
+
+
+def derive_case(program, make):
+    """`derive`, and `apply` of what it printed."""
+    question = [make.spoil.word(word, 0.05) for word in make.question()]
+    graph = make.spoil.text(make.graph_text(), 0.1)
+    rules = require_report(program, b"derive", [graph], question)
+    if rules is None or rules == b"# no\n":
+        return
+    text = require_report(program, b"apply", [graph, rules])
+    require_same("apply of derive", text is not None, True)
+    right, x, y = (word.decode() for word in question)
+    after = read_graph(text.partition(b"graph\n")[2])
+    require_same("the right after derive", right in after.rights(x, y), True)
+
+
+def table_case(program, make):
+    """`table`, and `share` of one of its cells."""
+    right, x, y = make.question()
+    workers = make.workers()
+    if workers and not is_call([b"table", b"file", b"r", *workers]):
+        told = program.report(b"table", b"", further=[right, *workers])
+        require_same("workers", told, BAD_WORDS)
+        return
+    graph = make.spoil.text(make.graph_text(), 0.1)
+    text = require_report(program, b"table", [graph], [make.spoil.word(right, 0.05), *workers])
+    rows = dict(line.split() for line in text.splitlines()) if text else {}
+    if x in rows and y in rows:
+        cell = rows[x][sorted(rows).index(y)]
+        told = program.report(b"share", graph, further=[right, x, y])
+        require_same("share of a cell", told, (b"yes\n" if cell == ord("1") else b"no\n", b"", 0))
+
+
+def run_case(program, make):
+    """`run`."""
+    graph, script = make.graph_and_script()
+    require_report(program, b"run", make.spoil.one_of([graph, script]))
+
+
+def require_race(program, texts):
+    """Requires a race to be refused as the model says, or its report to obey the laws."""
+    told = program.report(b"race", *texts)
+    refusal = race_refusal(*texts)
+    if refusal is not None:
+        require_same("race", told, (refusal, b"", 1))
+        return
+    script = read_script(texts[1])
+    if script.seats == 1:
+        require_same("race of one seat", told, program.report(b"run", *texts))
+    require_same("end of a race", told[1:], (b"", 0))
+    law = fault_of(read_graph(texts[0]), script, told[0].decode(errors="replace"))
+    require_same("law of a race", law or told, told)
+
+
+def race_case(program, make):
+    """`race`, of one seat or several."""
+    seats = make.chance.choice([1, 2, 2, 3, 3, 4])
+    require_race(program, make.spoil.one_of(make.graph_and_script(seats), 0.1))
+
+
+def answer_for(words, path, graph):
+    """The answer to words where a file with a graph is there, and no other."""
+    if not is_call(words):
+        return BAD_WORDS
+    if words and words[1] != path:
+        return b"", b"officer: cannot read the graph\n", 3
+    if words and words[0] in WITH_SECOND_FILE and words[2] != path:
+        return b"", b"officer: cannot read the second file\n", 3
+    if words and words[0] == b"race":
+        # (a graph is no script)
+        return race_refusal(graph, graph), b"", 1
+    text, status = report_of(words, graph if words else b"", graph)
+    return text, b"", status
+
+
+def words_case(program, make):
+    """Any words."""
+    graph = make.graph_text()
+    path = program.write("graph", graph)
+    words = make.words([path, os.fsencode(program.folder) + b"/missing"])
+    what = b" ".join(words).decode(errors="replace")
+    require_same(what, program.answer(words), answer_for(words, path, graph))
+
+
+def limits_case(program, make):
+    """Texts at their limits."""
+    command, texts, further = make.at_limits()
+    if command == b"race":
+        require_race(program, texts)
+    else:
+        require_report(program, command, texts, further)
+
+
+# Each kind with its share of the cases.
+KINDS = {
+    "check": (check_case, 12),
+    "case": (case_case, 8),
+    "apply": (apply_case, 14),
+    "islands": (islands_case, 6),
+    "share": (share_case, 10),
+    "derive": (derive_case, 14),
+    "table": (table_case, 8),
+    "run": (run_case, 16),
+    "race": (race_case, 12),
+    "words": (words_case, 8),
+    "limits": (limits_case, 0.4),
+}

@@ -1,0 +1,251 @@
+"""Random graphs, rules, scripts and words."""
+from itertools import product
+
+from fuzz_cases.spoiling import Spoiler
+from model.graphs import LETTERS, Graph
+from model.texts import MOST_LINES
+
+NAMES = ["a", "b", "c", "d", "e", "f", "_0", "_1", "_2", "v10", "z_9", "_", "abcdefghijklmnop"]
+FRESH = ["n", "m", "p0", "_3", "_10", "q"]
+SPACES = [" ", " ", " ", " ", " ", "  ", "\t", " \r", "\r\t "]
+FILLERS = ["", "#", "# vertex a", "  # x", "\t", " \r"]
+COMMANDS = "check islands apply run race table share derive".split()
+
+
+class Maker:
+    """Makes texts and words by chance. Most of what it makes fits together."""
+
+    def __init__(self, chance):
+        self.chance = chance
+        self.spoil = Spoiler(chance)
+        names = chance.sample(NAMES, chance.randint(0, 8))
+        if chance.random() < 0.04:
+            names = [f"v{i}" for i in range(chance.randint(20, 60))]
+        self.graph = Graph(names)
+        self.new_names = chance.sample(NAMES + FRESH, chance.choice([1, 3, 10]))
+        dense = chance.choice([0.05, 0.2, 0.4, 0.8])
+        labels = chance.choice([LETTERS, "tg", "rwe", "tgr", "tgrw", "gr", "tr"])
+        most = 4 if len(names) > 9 else len(names)
+        for x in names:
+            for y in chance.sample(names, most):
+                if chance.random() < dense:
+                    self.graph.add(x, y, set(chance.sample(labels, chance.randint(1, 2))))
+
+    # pieces
+
+    def name(self, fresh=0.05):
+        """A vertex of the graph, seldom another name."""
+        if not self.graph.names or self.chance.random() < fresh:
+            return self.chance.choice(self.new_names)
+        return self.chance.choice(sorted(self.graph.names))
+
+    def rights(self):
+        """A word of a set of rights."""
+        if self.chance.random() < 0.06:
+            return "-"
+        return "".join(self.chance.sample(LETTERS, self.chance.choice([1, 1, 1, 2, 2, 3, 5])))
+
+    def right(self):
+        """A word of one right."""
+        return self.chance.choice(LETTERS)
+
+    def rule(self):
+        """The words of a rule."""
+        kind = self.chance.choice(["take", "take", "grant", "grant", "create", "remove"])
+        if kind == "create":
+            return [kind, self.name(), self.chance.choice(self.new_names), self.rights()]
+        if kind == "remove":
+            return [kind, self.name(), self.name(), self.rights()]
+        return [kind, self.name(), self.name(), self.name(), self.rights()]
+
+    def fitting_rule(self, graph):
+        """The words of a rule that a graph accepts, where chance finds one."""
+        kind, needed = self.chance.choice([("take", "t"), ("grant", "g")])
+        edges = sorted(pair for pair, rights in graph.edges.items() if rights)
+        ways = [pair for pair in edges if needed in graph.rights(*pair)]
+        if not ways or self.chance.random() < 0.3:
+            return self.rule()
+        x, y = self.chance.choice(ways)
+        source = y if kind == "take" else x
+        held = [z for holder, z in edges if holder == source]
+        if not held:
+            return self.rule()
+        z = self.chance.choice(held)
+        rights = sorted(graph.rights(source, z))
+        some = self.chance.sample(rights, self.chance.randint(1, len(rights)))
+        return [kind, x, y, z, "".join(some)]
+
+    def accepted_rule(self, graph):
+        """The words of a rule that a graph mostly accepts. The graph is changed by it."""
+        rule = self.fitting_rule(graph) if self.chance.random() < 0.9 else self.rule()
+        graph.reply(rule)
+        return rule
+
+    def question(self):
+        """The words of a question about sharing."""
+        return [self.right().encode(), self.name(0.02).encode(), self.name(0.02).encode()]
+
+    def workers(self):
+        """The words that say how many workers make a table, or none."""
+        if self.chance.random() < 0.4:
+            return []
+        numbers = "1 2 3 5 16 16 0 17 9999 01 0016 00016 0000 -1 +1 x 1x".split() + [""]
+        options = ["--worker", "-workers", "", "4"]
+        option = "--workers" if self.chance.random() < 0.95 else self.chance.choice(options)
+        number = self.chance.choice(numbers)
+        return [option.encode(), number.encode()]
+
+    # texts
+
+    def text(self, lines):
+        """The text of lines, each a list of words, with fillers between them."""
+        wild = self.chance.random() < 0.3
+        found = []
+        for words in lines:
+            if wild and self.chance.random() < 0.15:
+                found.append(self.chance.choice(FILLERS))
+            gap = self.chance.choice(SPACES) if wild else " "
+            found.append(gap.join(words) + self.chance.choice(["", "", " ", "\r"]) * wild)
+        return "".join(line + "\n" for line in found).encode()
+
+    def graph_text(self):
+        """The text of the graph, its lines in an order of their own."""
+        names = sorted(self.graph.names)
+        pairs = sorted(pair for pair, rights in self.graph.edges.items() if rights)
+        self.chance.shuffle(names)
+        self.chance.shuffle(pairs)
+        edges = [["edge", x, y, self.shuffled(self.graph.rights(x, y))] for x, y in pairs]
+        return self.text([["vertex", name] for name in names] + edges)
+
+    def shuffled(self, letters):
+        """Letters in any order."""
+        letters = sorted(letters)
+        self.chance.shuffle(letters)
+        return "".join(letters)
+
+    def rules_text(self):
+        """The text of rules, most of them accepted on the graph."""
+        graph = self.graph.copy()
+        return self.text([self.accepted_rule(graph) for _ in range(self.chance.randint(0, 10))])
+
+    def graph_and_rules(self):
+        """The two texts of `apply`."""
+        return [self.graph_text(), self.rules_text()]
+
+    def case_text(self):
+        """The text of standard input."""
+        odd = [b" \trules\r\n", b"rules rules\n", b"", b"rules\nrules\n", b"rule\n", b"#\nrules\n"]
+        long = [b"rules".ljust(size) + b"\n" for size in (255, 256, 257)]
+        between = self.chance.choice([b"rules\n"] * 24 + odd + long)
+        return between.join(self.graph_and_rules())
+
+    def event(self, is_open):
+        """The words of an event of a seat, most of them fit to its being in a session or not."""
+        if self.chance.random() < 0.05:
+            return self.chance.choice([["begin"], ["commit"], ["abort"], self.rule()])
+        if not is_open:
+            return ["begin"]
+        if self.chance.random() < 0.3:
+            return ["commit"] if self.chance.random() < 0.9 else ["abort"]
+        asked = [self.right(), self.name(), self.name()]
+        steps = [self.rule(), ["holds", *asked], ["share", *asked]]
+        steps += [self.accepted_rule(self.graph.copy()) for _ in range(3)]
+        return self.chance.choices(steps, [4, 4, 1, 4, 4, 4])[0]
+
+    def script_text(self, seats=None):
+        """The text of a script."""
+        seats = seats or self.chance.choices([1, 2, 3, 4, 64, 65], [4, 8, 8, 4, 2, 0.2])[0]
+        cells = self.chance.choices([1, 2, 3, 8, 4096, 4097], [4, 4, 4, 12, 3, 0.2])[0]
+        lines = [["seats", str(seats)], ["cells", str(cells)]]
+        is_open = [False] * seats
+        for _ in range(self.chance.randint(0, 40)):
+            seat = self.chance.randrange(min(seats, 6))
+            words = self.event(is_open[seat])
+            is_ended = words[0] in ("commit", "abort")
+            is_open[seat] = not is_ended and (is_open[seat] or words[0] == "begin")
+            lines.append([str(seat + 1), *words])
+        return self.text(lines)
+
+    def graph_and_script(self, seats=None):
+        """The two texts of `run` and `race`."""
+        return [self.graph_text(), self.script_text(seats)]
+
+    def form(self, graph):
+        """The words of a command line."""
+        ask = [b"r", b"a", self.chance.choice([b"b", b"--workers"])]
+        forms = {b"check": [], b"islands": [], b"apply": [graph], b"run": [graph], b"race": [graph]}
+        forms.update({b"share": ask, b"derive": ask, b"table": [b"r", b"--workers", b"3"]})
+        command = self.chance.choice(sorted(forms))
+        return [command, graph, *forms[command]]
+
+    def words(self, files):
+        """The words of a command line, good or bad, with one of the files or several."""
+        pool = "r t a b --workers 4 16 Check --help".split() + COMMANDS + ["", "\xe9"]
+        pool = [word.encode() for word in pool] + [b"\xff", b"\xe2\x82"] + files * 3
+        words = self.form(files[0] if self.chance.random() < 0.8 else self.chance.choice(files))
+        way = self.chance.randrange(6)
+        if way == 0:
+            words.insert(self.chance.randrange(len(words) + 1), self.chance.choice(pool))
+        elif way == 1:
+            words.pop(self.chance.randrange(len(words)))
+        elif way == 2:
+            words[self.chance.randrange(len(words))] = self.chance.choice(pool)
+        return self.chance.choices(pool, k=self.chance.randint(0, 7)) if way == 3 else words
+
+    # limits
+
+    def at_limits(self):
+        """A command, its texts and its further words, at the limits of the texts."""
+        ways = [self.many_vertices, self.many_rules, self.many_events, self.many_commits]
+        return self.chance.choice([*ways, self.full_sessions, self.crowded_race])()
+
+    def many_vertices(self):
+        """As many vertices as there may be, one less or one more, and a chain of links."""
+        count = self.chance.choice([1023, 1024, 1024, 1025])
+        lines = [["vertex", f"v{i}"] for i in range(count)]
+        self.chance.shuffle(lines)
+        links = self.chance.choice(["t", "g", "tg", "r"])
+        lines += (["edge", f"v{i}", f"v{i + 1}", links] for i in range(count - 2))
+        lines.append(["edge", f"v{count - 2}", f"v{count - 1}", "w"])
+        ends = [b"w", b"v0", f"v{count - 1}".encode()]
+        further = {"check": [], "islands": [], "share": ends, "derive": ends, "table": [b"w"]}
+        command = self.chance.choice(sorted(further))
+        return command.encode(), [self.text(lines)], further[command]
+
+    def many_rules(self):
+        """As many rules as there may be, or one more."""
+        count = self.chance.choice([MOST_LINES, MOST_LINES + 1])
+        rules = b"remove a a r\n" * count
+        return b"apply", [self.chance.choice([b"vertex a\n", b""]), rules], []
+
+    def many_events(self):
+        """As many events as there may be, or one more."""
+        count = self.chance.choice([MOST_LINES, MOST_LINES + 1])
+        return b"run", [b"", b"seats 64\ncells 1\n" + b"64 commit\n" * count], []
+
+    def many_commits(self):
+        """As many commits as there are cells, and one more."""
+        cells = self.chance.choice([4095, 4096, 4097])
+        events = b"1 begin\n1 commit\n" * self.chance.choice([4096, 4097])
+        return b"run", [b"", b"seats 1\ncells %d\n" % cells + events], []
+
+    def full_sessions(self):
+        """Sessions that create as many vertices as there may be, and crowd one another."""
+        count = self.chance.choice([1021, 1022, 1023, 1024])
+        graph = b"".join(b"vertex v%d\n" % i for i in range(count))
+        events = [b"1 begin", b"2 begin"]
+        creates = [b"%d create v%d n%d r" % (i % 2 + 1, i % 2, i) for i in range(4)]
+        events += creates[: self.chance.randint(1, 4)] + [b"2 commit", b"1 commit", b"1 begin"]
+        events += [b"1 create v0 last -", b"1 commit"]
+        return b"run", [graph, b"seats 2\ncells 9\n" + b"\n".join(events)], []
+
+    def crowded_race(self):
+        """Seats that create more vertices at once than there may be."""
+        graph = b"".join(b"vertex v%d\n" % i for i in range(1000))
+        lines = [b"seats 4", b"cells 200"]
+        for seat, i in product(range(1, 5), range(self.chance.randint(5, 30))):
+            # (the questions take time, in which others commit)
+            acts = [b"begin", b"create v%d n%d_%d -" % (seat, seat, i)]
+            acts += [b"holds r v%d v0" % seat] * 20 + [b"commit"]
+            lines += (b"%d %s" % (seat, act) for act in acts)
+        return b"race", [graph, b"\n".join(lines)], []

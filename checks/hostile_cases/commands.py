@@ -1,0 +1,206 @@
+"""The commands, with small and large texts for each, and the endings of runs on them."""
+import os
+import random
+from dataclasses import dataclass
+from functools import cached_property, lru_cache
+
+from hostile_cases.runs import Lawful, Whole
+from model.reports import WITH_SECOND_FILE, race_refusal, report_of
+from model.texts import read_graph, read_script
+from races import dense, script, sparse
+
+MOST_INPUT_BYTES = 67_108_864
+MIB = 1_048_576
+
+GRAPH = b"""vertex a
+vertex b
+vertex c
+vertex d
+edge a b t
+edge b c rw
+edge d c tg
+"""
+RULES = b"""take a b c r
+create a n tg
+grant a n b t
+remove b c w
+"""
+SCRIPT = b"""seats 2
+cells 4
+1 begin
+2 begin
+1 take a b c r
+2 create d n g
+2 holds r b c
+2 commit
+1 commit
+2 begin
+2 share r a c
+2 commit
+"""
+CASE = GRAPH + b"rules\n" + RULES
+QUESTION = [b"r", b"a", b"c"]
+
+FURTHER = {
+    b"share": QUESTION,
+    b"derive": QUESTION,
+    b"table": [b"r", b"--workers", b"16"],
+}
+SECOND = {b"apply": RULES, b"run": SCRIPT, b"race": SCRIPT}
+COMMANDS = [b"", b"check", b"apply", b"islands", b"share", b"derive", b"table", b"run", b"race"]
+# The word for the second text in reports.
+SECOND_TITLES = {b"apply": "rules", b"run": "script", b"race": "script"}
+
+
+def title_of(command):
+    """A command as its cases are called."""
+    return command.decode() or "no words"
+
+
+def second_name(command):
+    """The name of the file with the second text of a command."""
+    return f"second_{title_of(command)}"
+
+
+class Files:
+    """A folder with the files that cases name."""
+
+    def __init__(self, folder):
+        self.folder = folder
+
+    def path(self, name):
+        """The path of a file, as a word."""
+        return os.fsencode(os.path.join(self.folder, name))
+
+    def text(self, name, *pieces):
+        """Writes pieces one after another to a file, and answers its path."""
+        with open(self.path(name), "wb") as file:
+            for piece in pieces:
+                file.write(piece)
+        return self.path(name)
+
+    def padded(self, name, size, text=b""):
+        """A file of that size: a text, and zero bytes that take no room on the disk."""
+        os.truncate(self.text(name, text), size)
+        return self.path(name)
+
+    def filled(self, name, text):
+        """A file that is as large as an input may be: a text, and comments."""
+        line = b"# " + b"x" * 254 + b"\n"
+        room = MOST_INPUT_BYTES - len(text)
+        return self.text(name, text, line * (room // len(line)), b"#" * (room % len(line)))
+
+
+def further_words(command):
+    """The words that a command has behind its files."""
+    return FURTHER.get(command, [])
+
+
+def ending_for(command, first, second=b"", further=None):
+    """The ending for texts that were read."""
+    further = further_words(command) if further is None else further
+    if command == b"race":
+        refusal = race_refusal(first, second)
+        if refusal:
+            return Whole(refusal, 1)
+        return Lawful(read_graph(first), read_script(second))
+    files = [b"graph", b"second"] if command in WITH_SECOND_FILE else [b"graph"]
+    words = [command, *files, *further] if command else []
+    return Whole(*report_of(words, first, second))
+
+
+def words_for(command, graph, second=None, further=None):
+    """The words of a command, none for standard input. It takes `second` where it has one."""
+    if not command:
+        return []
+    files = [graph, second] if command in WITH_SECOND_FILE else [graph]
+    return [command, *files, *(further_words(command) if further is None else further)]
+
+
+# commands with their texts
+
+
+def star(count):
+    """The text of a graph in which one vertex has take and grant over all."""
+    lines = [f"vertex v{i}\n" for i in range(count)]
+    return "".join(lines + [f"edge v0 v{i} tg\n" for i in range(count)]).encode()
+
+
+def chain(count):
+    """The text of a graph of vertices that may grant to the next one; the last holds a right."""
+    lines = [f"vertex v{i}\n" for i in range(count)]
+    lines += (f"edge v{i} v{i + 1} g\n" for i in range(count - 1))
+    return "".join([*lines, f"edge v{count - 1} v0 r\n"]).encode()
+
+
+def long_names(count):
+    """The text of a graph without edges whose names are as long as may be."""
+    return "".join(f"vertex v{i:015}\n" for i in range(count)).encode()
+
+
+def star_rules(count):
+    """The text of rules that a star accepts."""
+    return "".join(f"grant v0 v{i % 1023 + 1} v{i * 7 % 1024} tg\n" for i in range(count)).encode()
+
+
+@dataclass(frozen=True)
+class Load:
+    """A command with its texts, the files in which they stand, and the words behind these."""
+
+    command: bytes
+    texts: tuple
+    paths: tuple
+    further: list
+
+    def words(self):
+        """The words of the command line."""
+        return words_for(self.command, *self.paths, further=self.further)
+
+    def given(self):
+        """What stands on standard input."""
+        return os.devnull if self.command else os.fsdecode(self.paths[0])
+
+    @cached_property
+    def ending(self):
+        """How it ends without hindrance."""
+        return ending_for(self.command, *self.texts, further=self.further)
+
+
+def load(files, size, command, *texts, further=None):
+    """A command with its texts, in files that are named for a size."""
+    name = f"{size}_{title_of(command).replace(' ', '_')}"
+    paths = [files.text(f"{name}_{number}", text) for number, text in enumerate(texts)]
+    further = further_words(command) if further is None else further
+    return Load(command, texts, tuple(paths), further)
+
+
+def small_loads(files):
+    """Each command with a small report."""
+    for command in COMMANDS:
+        texts = [GRAPH, SECOND[command]] if command in SECOND else [GRAPH if command else CASE]
+        yield load(files, "small", command, *texts)
+
+
+def large_loads(files):
+    """Each command with much to do."""
+    chance = random.Random(29)
+    many = dense(400).text().encode()
+    wide = sparse(1024, 4096, chance).text().encode()
+    events = script(16, 1024, 256, chance).encode()
+    rules = star_rules(20_000)
+    yield load(files, "large", b"", star(1024) + b"rules\n" + rules)
+    yield load(files, "large", b"check", many)
+    yield load(files, "large", b"apply", star(1024), rules)
+    yield load(files, "large", b"islands", long_names(1024))
+    yield load(files, "large", b"share", many, further=[b"r", b"v0", b"v399"])
+    yield load(files, "large", b"derive", chain(1024), further=[b"r", b"v0", b"v0"])
+    yield load(files, "large", b"table", star(1024), further=[b"t", b"--workers", b"16"])
+    yield load(files, "large", b"run", wide, events)
+    yield load(files, "large", b"race", wide, events)
+
+
+@lru_cache
+def all_loads(files):
+    """The small and the large loads, each with its size."""
+    loads = [("small", it) for it in small_loads(files)]
+    return loads + [("large", it) for it in large_loads(files)]

@@ -1,0 +1,87 @@
+"""Command lines that are good, bad or refused."""
+import shlex
+from itertools import product
+
+from hostile_cases.commands import COMMANDS, GRAPH, MIB, QUESTION, ending_for, title_of, words_for
+from hostile_cases.runs import WIDE_STACK, Case, Hindrance, Says
+
+MOST_WORD_BYTES = 131_071
+LONG_WORD = b"a" * MOST_WORD_BYTES
+# Words that have none of the forms; G is the graph.
+BAD_LINES = """
+fly|fly G|Check G|CHECK G|check|check G G|islands|islands G G|apply|apply G|apply G G G|run G
+run G G G|race|race G|race G G G|share G r a|share G r a c c|share r a c|derive G r a
+derive G r a c c|table G|table|table G r 4|table G r --workers|table G r --workers 4 4
+table G r --worker 4|table G r -workers 4|table G --workers 4 r|--help|G|table G r --workers 00004
+table G r --workers 12345|table G r --workers -1|table G r --workers +1|table G r --workers x
+table G r --workers 4x|table G r --workers 0x4|table G r --workers 1.0|table G r --workers \u0664
+table G r --workers ''|table G r --workers ' 4'|'check ' G|''|'' ''|'' check G|check G ''
+"""
+# What stands behind the graph of a question, good or bad.
+QUESTIONS = """
+q a c|'' a c|rw A z|r '' c|r a z|r z A|r z y|r a \u00e9|R a c|- a c|r abcdefghijklmnop c
+r abcdefghijklmnopq c|r 9a c
+"""
+# What stands behind the graph of a table, good or bad.
+TABLES = """
+r|q|rw|''|r --workers 0|r --workers 0000|r --workers 1|r --workers 0001|r --workers 16
+r --workers 0016|r --workers 17|r --workers 9999|q --workers 17
+"""
+
+
+def lines_in(text):
+    """The words of lines that bars or line feeds part."""
+    for line in text.strip().replace("\n", "|").split("|"):
+        yield line, [word.encode() for word in shlex.split(line)]
+
+
+def bad_line_cases(files):
+    """Words that have none of the forms."""
+    graph = files.path("graph")
+    for line, words in lines_in(BAD_LINES):
+        words = [graph if word == b"G" else word for word in words]
+        yield Case(f"words: {line}", words, [Says("words")])
+
+
+def untold_word_cases(files):
+    """Words that are no text: not one of them is looked at."""
+    graph = files.path("graph")
+    for command, spoil in product(COMMANDS[1:], (b"\xff", b"\xc3", b"\xe2\x82")):
+        words = words_for(command, graph, graph)
+        for place, word in enumerate(words):
+            spoiled = words[:place] + [word + spoil] + words[place + 1 :]
+            title = f"words: {title_of(command)}, and {spoil.hex()} behind word {place + 1}"
+            yield Case(title, spoiled, [Says("words")])
+
+
+def question_cases(files):
+    """Words behind the graph that are good or refused."""
+    graph = files.path("graph")
+    long_words = [QUESTION[:i] + [LONG_WORD] + QUESTION[i + 1 :] for i in range(len(QUESTION))]
+    questions = [*lines_in(QUESTIONS)] + [(f"long {i}", it) for i, it in enumerate(long_words)]
+    tables = [*lines_in(TABLES), ("long", [LONG_WORD])]
+    cases = [*product((b"share", b"derive"), questions), *product([b"table"], tables)]
+    for command, (line, further) in cases:
+        ending = ending_for(command, GRAPH, further=further)
+        title = f"words: {title_of(command)} G {line}"
+        yield Case(title, [command, graph, *further], [ending])
+
+
+def long_path_cases(files):
+    """A word for a file that is as long as a word may be."""
+    for command in COMMANDS[1:]:
+        words = words_for(command, LONG_WORD, files.path("graph"))
+        yield Case(f"words: {title_of(command)} with a long path", words, [Says("graph")])
+
+
+def many_word_cases(_):
+    """More words than any command has, and as many long ones as the system hands over."""
+    for count in (6, 256, 10_000):
+        yield Case(f"words: {count} times check", [b"check"] * count, [Says("words")])
+    # (that is 6 MiB, and less where the stack is limited)
+    for count, more in product((1, 5, 15, 46), (6, 8, 16, None)):
+        memory = count * MOST_WORD_BYTES + more * MIB if more else None
+        title = f"words: {count} of 131,071 bytes" + (f", {more} MiB of memory" if more else "")
+        allowed = [Says("words"), Says("memory")] if more else [Says("words")]
+        hindrance = Hindrance(stack=WIDE_STACK, memory=memory)
+        yield Case(title, [LONG_WORD] * count, allowed, hindrance)

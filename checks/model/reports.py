@@ -1,0 +1,174 @@
+"""What the program prints for its words and texts, and with which status."""
+import re
+
+from model.sessions import Hall
+from model.texts import TextFault, is_name, is_right, parts_of, read_graph, read_rules, read_script
+
+MOST_WORKERS = 16
+WORKERS = re.compile(rb"[0-9]{1,4}")
+# The numbers of words that each command may have, its own included.
+WORD_COUNTS = {
+    b"check": (2,),
+    b"islands": (2,),
+    b"apply": (3,),
+    b"run": (3,),
+    b"race": (3,),
+    b"table": (3, 5),
+    b"share": (5,),
+    b"derive": (5,),
+}
+WITH_SECOND_FILE = (b"apply", b"run", b"race")
+
+
+class Refused(Exception):
+    """A fault that is the whole report."""
+
+
+def is_call(words):
+    """Whether the words of a command line have one of the forms."""
+    if not words:
+        return True
+    if len(words) not in WORD_COUNTS.get(words[0], ()) or not all(map(is_utf8, words)):
+        return False
+    if words[0] != b"table" or len(words) == 3:
+        return True
+    return words[3] == b"--workers" and WORKERS.fullmatch(words[4]) is not None
+
+
+def is_utf8(word):
+    """Whether the bytes are text."""
+    try:
+        word.decode()
+    except UnicodeDecodeError:
+        return False
+    return True
+
+
+def read(reader, title, text):
+    """The value of a text, or the refusal of its first fault."""
+    try:
+        return reader(text)
+    except TextFault as fault:
+        raise Refused(f"{title} line {fault.line} {fault.kind}") from fault
+
+
+def right_in(word):
+    """The right that a word is."""
+    if not is_right(word):
+        raise Refused("bad-right")
+    return word.decode()
+
+
+def question_in(text, right, x, y):
+    """The graph, right and two vertices of a question."""
+    graph = read(read_graph, "graph", text)
+    right = right_in(right)
+    if not is_name(x) or not is_name(y):
+        raise Refused("bad-name")
+    for name in (x.decode(), y.decode()):
+        if name not in graph.names:
+            raise Refused(f"unknown {name}")
+    return graph, right, x.decode(), y.decode()
+
+
+def check(text):
+    """The report of `check`."""
+    return read(read_graph, "graph", text).text(), 0
+
+
+def islands(text):
+    """The report of `islands`."""
+    graph = read(read_graph, "graph", text)
+    return "".join(" ".join(island) + "\n" for island in graph.islands()), 0
+
+
+def share(text, *words):
+    """The report of `share`."""
+    graph, *question = question_in(text, *words)
+    return "yes\n" if graph.can_share(*question) else "no\n", 0
+
+
+def derive(text, *words):
+    """The report of `derive`."""
+    graph, *question = question_in(text, *words)
+    rules = graph.derivation(*question)
+    if rules is None:
+        return "# no\n", 0
+    return f"# yes {len(rules)}\n" + "".join(rule + "\n" for rule in rules), 0
+
+
+def table(text, right, _="--workers", workers=b"4"):
+    """The report of `table`."""
+    graph = read(read_graph, "graph", text)
+    right = right_in(right)
+    if not 1 <= int(workers) <= MOST_WORKERS:
+        raise Refused("workers")
+    names, pairs = sorted(graph.names), graph.table(right)
+    rows = (x + " " + "".join("01"[(x, y) in pairs] for y in names) + "\n" for x in names)
+    return "".join(rows), 0
+
+
+def apply(text, rules_text):
+    """The report of `apply`."""
+    graph = read(read_graph, "graph", text)
+    lines, reply = [], "done"
+    for line, words in read(read_rules, "rules", rules_text):
+        reply = graph.apply(words)
+        lines.append(f"{line} {reply}\n")
+        if reply != "done":
+            break
+    return "".join(lines) + "graph\n" + graph.text(), 0 if reply == "done" else 1
+
+
+def case(text):
+    """The report of no words, for standard input."""
+    return apply(*parts_of(text))
+
+
+def played(graph_text, script_text):
+    """The graph and the script of two texts."""
+    graph = read(read_graph, "graph", graph_text)
+    return graph, read(read_script, "script", script_text)
+
+
+def run(graph_text, script_text):
+    """The report of `run`."""
+    graph, script = played(graph_text, script_text)
+    hall = Hall(graph, script.cells, script.seats)
+    lines = [f"{line} {seat} {hall.act(seat, words)}\n" for line, seat, words in script.events]
+    return "".join(lines) + "graph\n" + hall.last().text(), 0
+
+
+REPORTS = {
+    b"check": check,
+    b"islands": islands,
+    b"apply": apply,
+    b"run": run,
+    b"table": table,
+    b"share": share,
+    b"derive": derive,
+}
+
+
+def report_of(words, first, second=b""):
+    """The bytes and the status of the report of all commands but `race`.
+
+    `words` are those of a command line that has one of the forms; `first` and `second` are the
+    texts of the files that they name, or `first` is standard input where there are no words.
+    """
+    texts = [first, second] if words and words[0] in WITH_SECOND_FILE else [first]
+    further = words[1 + len(texts) :]
+    try:
+        text, status = REPORTS[words[0]](*texts, *further) if words else case(first)
+    except Refused as fault:
+        text, status = f"refused {fault}\n", 1
+    return text.encode(), status
+
+
+def race_refusal(first, second):
+    """The bytes of the report of a race whose texts are refused, or None."""
+    try:
+        played(first, second)
+    except Refused as fault:
+        return f"refused {fault}\n".encode()
+    return None
