@@ -93,6 +93,10 @@ order_numbers x y n m =
     order_padded x y (16 - length x) (16 - length y) (omega (arith, n.within, m.within)) (name_positive x a) (name_positive y b)
     ∙ order_spelled 0 (padded_to_16 x) (padded_to_16 y) (length-padded x n.within ∙ sym (length-padded y m.within)) (name_bytes x (16 - length x) a) (name_bytes y (16 - length y) b)
 
+-- what the numbers tell is the order of the names
+pub order_told : (x y : List ℕ) → IsName x → IsName y → (r : Ordering) → MatchOrdering r (name_number x < name_number y) (name_number x ≡ name_number y) (name_number y < name_number x) → r ≡ slice_cmp nat_cmp x y
+order_told x y n m r h = nat_cmp_is (name_number x) (name_number y) r h ∙ sym (order_numbers x y n m)
+
 -- and equal where these are
 pub equal_numbers : (x y : List ℕ) → IsName x → IsName y → bytes_eq x y ≡ nat_eq (name_number x) (name_number y)
 equal_numbers x y n m = texts_ties x y ∙ ap is_eq (order_numbers x y n m) ∙ tied (name_number x) (name_number y)

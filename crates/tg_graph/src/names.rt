@@ -190,7 +190,15 @@ impl Ord for Name {
     ghost matches_eq = { texts_ties };
 
     fn cmp(&self, other: &Name) -> Ordering {
-        self.number().cmp(&other.number())
+        // A search asks for `Greater` alone, so that comparison stands first.
+        let (mine, theirs) = (self.number(), other.number());
+        if mine > theirs {
+            Ordering::Greater
+        } else if mine < theirs {
+            Ordering::Less
+        } else {
+            Ordering::Equal
+        }
     }
 }
 

@@ -1,5 +1,5 @@
 //! Protection graphs.
-ghost use Rattle.std.specs.Prelude.{◌≡◌, ◌<◌, [], Some, None, true, false, IfOk, OnOk, OnErr, bytes_eq, length, slice_get, position, MatchBool, if◌then◌else◌};
+ghost use Rattle.std.specs.Prelude.{◌≡◌, ◌<◌, [], Some, None, true, false, IfOk, OnOk, OnErr, bytes_eq, length, slice_get, position, is_some, MatchBool, if◌then◌else◌};
 ghost use Rattle.std.specs.Map.{keys_of, lookup};
 ghost use Rattle.indexmap.specs.IndexMap.{spare};
 ghost use Rattle.tg_graph.specs.Sets.{IsNamed};
@@ -298,6 +298,27 @@ impl Graph {
         Ok(())
     }
 
+    // The position of the next target of a vertex with edges to the first ones, as in a text of all
+    // pairs, or `None` for a name that is no vertex.
+    fn next_target(&self, x: Name) -> Option<usize>
+        ensures { is_some result ≡ has_vertex (graph_of self.now) x }
+    {
+        match self.row(x) {
+            Some(row) => Some(row.len()),
+            None => None,
+        }
+    }
+
+    // Whether a name is a vertex, looked for at a position first. The position decides no answer.
+    fn knows_at(&self, position: usize, name: Name) -> bool
+        ensures { result ≡ has_vertex (graph_of self.now) name }
+    {
+        match self.rows.get_index(position) {
+            Some((found, _)) if *found == name => true,
+            _ => self.knows(name),
+        }
+    }
+
     // Why an edge from x to y with no rights is not added.
     fn fault_of_no_rights(&self, x: Name, y: Name) -> EdgeFault
         ensures { result ≡ (if is_empty_set (label_between (graph_of self.now) x y)
@@ -316,10 +337,10 @@ impl Graph {
         ensures added { AddsEdge (graph_of self.old) x y rights result (graph_of self.new) }
         ensures kept { OnErr result (self.new ≡ self.old) }
     {
-        if !self.knows(x) {
+        let Some(guess) = self.next_target(x) else {
             return Err(EdgeFault::Unknown(x));
-        }
-        if !self.knows(y) {
+        };
+        if !self.knows_at(guess, y) {
             return Err(EdgeFault::Unknown(y));
         }
         if rights.is_empty() {

@@ -14,9 +14,10 @@ use std::marker::Model;
 #[derive(Drop)]
 pub struct Row {
     edges: Vec<(Name, Rights)>,
-    // The place behind the edge that was put in last, where the next one mostly goes. It decides no
-    // answer.
+    // The place behind the edge that was put in last, and whether that one went behind the one put
+    // in before it, as the next then mostly does. They decide no answer.
     next: usize,
+    in_turn: bool,
 }
 
 impl Model for Row {
@@ -41,6 +42,7 @@ impl Clone for Row {
         Ok(Row {
             edges: Vec::from_slice(*self.edges.allocator(), self.edges.as_slice())?,
             next: self.next,
+            in_turn: self.in_turn,
         })
     }
 }
@@ -53,6 +55,7 @@ impl Row {
         Row {
             edges: Vec::new(alloc),
             next: 0,
+            in_turn: true,
         }
     }
 
@@ -113,13 +116,13 @@ impl Row {
         self.is_above(place, y) && self.is_below(place, y)
     }
 
-    /// The same as `place`, found at once where the edge goes behind the one that was put in last.
+    /// The same as `place`, found at once where edges are put in one behind the other.
     pub fn place_of_next(&self, y: Name) -> Result<usize, usize>
         ensures found { IfOk result (IsPlaceOf self.now y) }
         ensures absent { IfErr result (IsGapFor self.now y) }
         ensures row { IsRow self.now }
     {
-        if self.is_gap(self.next, y) {
+        if self.in_turn && self.is_gap(self.next, y) {
             Err(self.next)
         } else {
             self.place(y)
@@ -165,6 +168,7 @@ impl Row {
         ensures row { IsRow self.new }
     {
         self.edges.insert(place, (y, label))?;
+        self.in_turn = place == self.next;
         self.next = place + 1;
         Ok(())
     }
