@@ -3,6 +3,8 @@
 
 pub mod call;
 pub mod deliver;
+#[cfg(test)]
+mod famine_tests;
 pub mod fault;
 pub mod fetch;
 mod inputs;

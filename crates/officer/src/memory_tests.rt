@@ -1,7 +1,9 @@
-// Each test passes whichever one request for memory is refused: `rt try --test --fail-alloc N --
-// memory_tests`, for N from 1 on. Where a call was refused memory, its second try has it.
+// Each test passes whichever one request for memory is refused, which `make refusals` tries. Where a
+// call was refused memory, its second try has it.
 use crate::fetch::{FetchFault, fetch};
+use crate::race::race;
 use crate::report::report;
+use crate::surroundings_tests::Zeros;
 use crate::words::Command;
 use std::alloc::AllocError;
 use std::process::Abort;
@@ -33,6 +35,14 @@ fn refused_graphs(rt: HostRuntime) -> Result<(), Fail> {
 }
 
 #[test]
+fn refused_tables(rt: HostRuntime) -> Result<(), Fail> {
+    let (right, workers) = ("r", 2);
+    let table = Command::Table { right, workers };
+    reports(&rt, table, b"", b"a 001\nb 001\nc 000\n")?;
+    Ok(())
+}
+
+#[test]
 fn refused_rules(rt: HostRuntime) -> Result<(), Fail> {
     reports(
         &rt,
@@ -40,6 +50,19 @@ fn refused_rules(rt: HostRuntime) -> Result<(), Fail> {
         b"remove b c r\nremove a b g\n",
         b"1 done\n2 done\ngraph\nvertex a\nvertex b\nvertex c\n",
     )?;
+    Ok(())
+}
+
+// A text with its rules. What was refused at a line is printed at that line.
+#[test]
+fn refused_cases(rt: HostRuntime) -> Result<(), Fail> {
+    let text = b"vertex a\nrules\ncreate a b r\ntake a b b r\n";
+    let made = match report(&rt, rt.alloc(), &Command::Case, text, b"") {
+        Ok(made) => made,
+        Err(AllocError) => report(&rt, rt.alloc(), &Command::Case, text, b"")?,
+    };
+    let wanted = b"1 done\n2 refused no-take\ngraph\nvertex a\nvertex b\nedge a b r\n";
+    assert!(rt; made.bytes.as_slice() == wanted.as_slice() && made.status == 1);
     Ok(())
 }
 
@@ -79,5 +102,45 @@ fn refused_input(rt: HostRuntime) -> Result<(), Fail> {
         }
     };
     assert!(rt; bytes.as_slice() == GRAPH);
+    Ok(())
+}
+
+// Input that takes several growths.
+#[test]
+fn refused_long_input(rt: HostRuntime) -> Result<(), Fail> {
+    let bytes = match fetch(rt.alloc(), &mut Zeros { left: 40_000 }) {
+        Ok(bytes) => bytes,
+        Err(fault) => {
+            assert!(rt; matches!(fault, FetchFault::Memory));
+            fetch(rt.alloc(), &mut Zeros { left: 40_000 })?
+        }
+    };
+    assert!(rt; bytes.len() == 40_000);
+    Ok(())
+}
+
+const CHAIN: &[u8] = b"vertex a\nvertex b\nvertex c\nedge a b t\nedge b c r\n";
+
+const ONE_SEAT: &[u8] =
+    b"seats 1\ncells 2\n1 commit\n1 begin\n1 begin\n1 holds r a z\n1 take a b c w\n1 abort\n1 abort\n";
+
+// Whether a line of the report tells of an event that was refused memory.
+fn tells_of_memory(report: &[u8]) -> bool {
+    report
+        .split(|byte| *byte == b'\n')
+        .any(|line| line.ends_with(b" refused memory"))
+}
+
+// A race tells of want of memory within an event by that event's line, and else by an error.
+#[test]
+fn refused_races(rt: HostRuntime) -> Result<(), Fail> {
+    let made = match race(&rt, CHAIN, ONE_SEAT) {
+        Ok(made) => made,
+        Err(AllocError) => race(&rt, CHAIN, ONE_SEAT)?,
+    };
+    let whole =
+        b"3 1 refused not-open\n4 1 done\n5 1 refused already-open\n6 1 refused unknown z\n7 1 refused not-held w\n8 1 done\n9 1 refused not-open\ngraph\nvertex a\nvertex b\nvertex c\nedge a b t\nedge b c r\n";
+    assert!(rt; made.bytes.as_slice() == whole.as_slice() || tells_of_memory(&made.bytes));
+    assert!(rt; made.status == 0);
     Ok(())
 }

@@ -39,8 +39,8 @@ impl Read for Endless {
 
 // Gives so many bytes, as many at once as it is asked for.
 #[derive(Drop)]
-struct Zeros {
-    left: usize,
+pub(crate) struct Zeros {
+    pub(crate) left: usize,
 }
 
 impl Read for Zeros {
@@ -70,8 +70,8 @@ impl Read for Interrupted<'_> {
 
 // Takes so many bytes in all, and fails where it would take none.
 #[derive(Drop)]
-struct Full {
-    room: usize,
+pub(crate) struct Full {
+    pub(crate) room: usize,
 }
 
 impl Write for Full {

@@ -21,4 +21,8 @@ pub use journal::Journal;
 pub use pass::{Front, Pass};
 
 #[cfg(test)]
+mod famine_tests;
+#[cfg(test)]
+mod memory_tests;
+#[cfg(test)]
 mod tests;

@@ -1,6 +1,6 @@
-ghost use Rattle.std.specs.Prelude.{◌≡◌, IfOk, length, slice_get};
-ghost use Rattle.tg_journal.specs.Pass.{fresh};
+ghost use Rattle.std.specs.Prelude.{◌≡◌, IfOk};
 
+use crate::memory_tests::{put_after_refusal, started};
 use crate::{Entry, Front, Journal, JournalFault, Next, Pass, Put};
 use std::alloc::{AllocError, Global};
 use std::process::Abort;
@@ -11,9 +11,9 @@ use std::thread;
 const NO_COPY: u32 = 100;
 
 #[derive(Debug, PartialEq, Eq, Drop)]
-struct Mark {
-    seat: u32,
-    number: u32,
+pub(crate) struct Mark {
+    pub(crate) seat: u32,
+    pub(crate) number: u32,
 }
 
 impl Entry for Mark {
@@ -113,7 +113,7 @@ fn two_passes(rt: HostRuntime) -> Result<(), Fail> {
     Ok(())
 }
 
-fn finds(next: Next<'_, Mark>, number: u32) -> bool {
+pub(crate) fn finds(next: Next<'_, Mark>, number: u32) -> bool {
     match next {
         Next::Entry(mark) => mark.number == number,
         Next::End | Next::Foreign(_) => false,
@@ -211,41 +211,13 @@ fn limits(rt: HostRuntime) {
     }
 }
 
-// Where memory is refused once, the second try has it.
-fn started(alloc: Global) -> Result<(Journal<Mark>, Vec<Pass<Mark>>), JournalFault>
-    ensures one { IfOk result (λ r. length r.1.items ≡ 1) }
-    ensures fresh { IfOk result (λ r. slice_get r.1.items 0 ≡ Some (fresh r.0 1)) }
-{
-    match Journal::start(alloc, 2, 1) {
-        Ok(made) => Ok(made),
-        Err(JournalFault::Memory) => Journal::start(alloc, 2, 1),
-        Err(fault) => Err(fault),
-    }
-}
-
-// A put that memory was refused to has put nothing: a later put of another record has its place.
-fn put_after_refusal(rt: &impl Abort, journal: &Journal<Mark>, pass: &mut Pass<Mark>, first: Mark)
-    requires { (pass.old.cells ≡ journal.now) × (pass.old.number ≡ 1) × (first.seat ≡ 1) }
-    ensures { pass.new.cells ≡ journal.now }
-{
-    let other = Mark { seat: 1, number: 8 };
-    let refused = journal.put(pass, &first) == Put::Memory;
-    assert!(rt; pass.len() == if refused { 0 } else { 1 });
-    let place = pass.len();
-    let answer = match journal.put(pass, &other) {
-        Put::Memory => journal.put(pass, &other),
-        answer => answer,
-    };
-    assert!(rt; answer == Put::Won(place));
-}
-
 #[test]
 fn copy_refused(rt: HostRuntime) {
     let first = Mark {
         seat: 1,
         number: NO_COPY,
     };
-    let Ok((journal, mut passes)) = started(rt.alloc()) else {
+    let Ok((journal, mut passes)) = started(rt.alloc(), 1) else {
         assert!(rt; false);
         return;
     };
@@ -255,26 +227,4 @@ fn copy_refused(rt: HostRuntime) {
     };
     put_after_refusal(&rt, &journal, &mut pass, first);
     assert!(rt; pass.len() == 1);
-}
-
-// It passes whichever one request for memory is refused: `rt try --test --fail-alloc N -- refused`,
-// for N from 1 on.
-#[test]
-fn request_refused(rt: HostRuntime) -> Result<(), Fail> {
-    let Ok((journal, mut passes)) = started(rt.alloc()) else {
-        assert!(rt; false);
-        return Ok(());
-    };
-    let Some(mut pass) = passes.pop() else {
-        assert!(rt; false);
-        return Ok(());
-    };
-    put_after_refusal(&rt, &journal, &mut pass, Mark { seat: 1, number: 7 });
-    let seen = pass.len();
-    let front = match journal.front(&pass) {
-        Ok(front) => front,
-        Err(AllocError) => journal.front(&pass)?,
-    };
-    assert!(rt; pass.len() == seen && front.len() == seen);
-    Ok(())
 }
