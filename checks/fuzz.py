@@ -29,7 +29,6 @@ from random import Random, SystemRandom
 from fuzz_cases.comparing import KINDS, LONGEST_RUN, Failure, Program
 from fuzz_cases.making import Maker
 
-SHOWN_BYTES = 1_500
 KEPT_FAILURES = 5
 
 
@@ -37,14 +36,6 @@ def kind_of(chance):
     """The kind of a case."""
     weights = [weight for _, weight in KINDS.values()]
     return chance.choices(list(KINDS), weights)[0]
-
-
-def shown(answer):
-    """An answer as text, its middle left out where it is long."""
-    text = repr(answer)
-    if len(text) <= SHOWN_BYTES:
-        return text
-    return f"{text[:SHOWN_BYTES - 300]} .. {text[-300:]}"
 
 
 def failure_in(path, folder, seed, number):
@@ -55,14 +46,13 @@ def failure_in(path, folder, seed, number):
         KINDS[kind][0](program, Maker(chance))
         return kind, None
     except Failure as failure:
-        what, told, wanted = failure.args
-        fault = f"{what}\n  answered {shown(told)}\n  wanted   {shown(wanted)}"
+        fault, told, wanted = failure.difference(), failure.told, failure.wanted
     except subprocess.TimeoutExpired as late:
-        fault = f"{late.cmd} had not ended in {LONGEST_RUN} seconds"
+        fault, told, wanted = f"{late.cmd} had not ended in {LONGEST_RUN} seconds", [], []
     kept = os.path.join(tempfile.gettempdir(), f"fuzz-{seed}-{number}")
-    program.keep(kept)
-    again = f"texts and words in {kept}; again: --seed {seed} --case {number}"
-    return kind, f"{kind}: {fault}\n  {again}"
+    program.keep(kept, told, wanted)
+    again = f"texts, words and answers in {kept}; again: --seed {seed} --case {number}"
+    return kind, f"FAILED {kind}: {fault}\n  {again}"
 
 
 def play(path, seed, numbers, seconds):

@@ -34,6 +34,8 @@ from hostile_cases.runs import LONGEST_RUN, Case, Hindrance, Lawful, play, shown
 
 # The status of the system's loader where it can't load a program.
 NOT_LOADED = 127
+# What the files take.
+ROOM = 512 * MIB
 # Each job may hold an input as large as may be, several times.
 MOST_JOBS = 8
 
@@ -147,6 +149,8 @@ def cases_in(folder, text):
 
 def room_in(folder, program):
     """Makes a folder that others may enter, with a copy of the program."""
+    if shutil.disk_usage(folder).free < ROOM:
+        sys.exit(f"hostile.py: {folder} has not {ROOM // MIB} MiB of room; set TMPDIR")
     os.chmod(folder, 0o755)
     copy = os.path.join(folder, "program")
     shutil.copyfile(program, copy)

@@ -1,6 +1,7 @@
 """The kinds of cases: what the program is run on, and what its answer is compared with."""
 import os
 import subprocess
+from itertools import zip_longest
 
 from model.races import fault_of
 from model.reports import WITH_SECOND_FILE, is_call, race_refusal, report_of
@@ -11,7 +12,34 @@ BAD_WORDS = (b"", b"officer: bad command line\n", 2)
 
 
 class Failure(Exception):
-    """Two answers that are not the same: what was compared, the program's and the one wanted."""
+    """Two answers that are not the same: what was compared, the program's and the one wanted.
+
+    The one wanted is None where the program's answer breaks a law.
+    """
+
+    def __init__(self, what, told, wanted):
+        super().__init__(what)
+        self.told = lines_of(told)
+        self.wanted = lines_of(wanted)
+
+    def difference(self):
+        """What was compared, and the first lines that differ."""
+        pairs = enumerate(zip_longest(self.told, self.wanted, fillvalue="nothing"), 1)
+        for number, (told, wanted) in pairs:
+            if self.wanted and told != wanted:
+                return f"{self}, line {number}\n  answered {told}\n  wanted   {wanted}"
+        return str(self)
+
+
+def lines_of(answer):
+    """An answer, that is, output, standard error and status, or a single value, as lines."""
+    if answer is None:
+        return []
+    if not isinstance(answer, tuple):
+        return [repr(answer)]
+    output, complaint, status = answer
+    lines = output.decode(errors="backslashreplace").split("\n")
+    return [f"status {status}, standard error {complaint!r}, and the report:", *lines]
 
 
 class Program:
@@ -53,11 +81,14 @@ class Program:
             words.append(self.write("second", second))
         return self.answer([*words, *further])
 
-    def keep(self, folder):
-        """Keeps the texts and the words of the runs in a new folder."""
+    def keep(self, folder, told, wanted):
+        """Keeps the texts, the words of the runs and two answers as lines in a new folder."""
         os.makedirs(folder, exist_ok=True)
-        runs = "".join(repr([self.path, *words]) + "\n" for words in self.runs)
-        for name, text in {**self.texts, "runs": runs.encode()}.items():
+        runs = [repr([self.path, *words]) for words in self.runs]
+        kept = dict(self.texts)
+        for name, lines in (("runs", runs), ("answered", told), ("wanted", wanted)):
+            kept[name] = "\n".join(lines).encode(errors="surrogateescape")
+        for name, text in kept.items():
             with open(os.path.join(folder, name), "wb") as file:
                 file.write(text)
 
@@ -130,13 +161,13 @@ def derive_case(program, make):
 def table_case(program, make):
     """`table`, and `share` of one of its cells."""
     right, x, y = make.question()
-    workers = make.workers()
+    right, workers = make.spoil.word(right, 0.05), make.workers()
     if workers and not is_call([b"table", b"file", b"r", *workers]):
         told = program.report(b"table", b"", further=[right, *workers])
         require_same("workers", told, BAD_WORDS)
         return
     graph = make.spoil.text(make.graph_text(), 0.1)
-    text = require_report(program, b"table", [graph], [make.spoil.word(right, 0.05), *workers])
+    text = require_report(program, b"table", [graph], [right, *workers])
     rows = dict(line.split() for line in text.splitlines()) if text else {}
     if x in rows and y in rows:
         cell = rows[x][sorted(rows).index(y)]
@@ -162,7 +193,8 @@ def require_race(program, texts):
         require_same("race of one seat", told, program.report(b"run", *texts))
     require_same("end of a race", told[1:], (b"", 0))
     law = fault_of(read_graph(texts[0]), script, told[0].decode(errors="replace"))
-    require_same("law of a race", law or told, told)
+    if law:
+        raise Failure(f"law of a race: {law}", told, None)
 
 
 def race_case(program, make):
