@@ -15,3 +15,5 @@ pub mod RowsOf
 pub mod NewNames
 pub mod Drafts
 pub mod DraftLaws
+pub mod TakenOver
+pub mod Positions
