@@ -16,3 +16,5 @@ pub mod NewNames
 pub mod Drafts
 pub mod DraftLaws
 pub mod NameNumbers
+pub mod TakenOver
+pub mod Positions

@@ -1,6 +1,6 @@
 -- Changed rows and new vertices laid over a graph.
-use Rattle.std.specs.Prelude.{◌≡◌, Bool, true, false, ◌||◌, List, [], ◌∷◌, ◌++◌, bytes_eq, Some, IfSome, filter, ◌↔◌}
-use Rattle.std.specs.List.{list_any, IsDistinct}
+use Rattle.std.specs.Prelude.{◌≡◌, ℕ, Bool, true, false, ◌||◌, List, [], ◌∷◌, ◌++◌, bytes_eq, Some, IfSome, MatchOption, filter, map, position, slice_get, ◌+◌, ◌↔◌}
+use Rattle.std.specs.List.{list_any, filter_map, IsDistinct}
 use Rattle.std.specs.Map.{keys_of, lookup}
 use Rattle.indexmap.specs.IndexMap.{insert_entry, insert_all}
 use Rattle.tg_graph.specs.declared.rules.Rule.{Rule}
@@ -20,6 +20,23 @@ is_created changes v = list_any (same_name v) changes.1
 -- the base with the rows put in, each in turn: a vertex that is there keeps its place and takes the row, and a new one goes last
 abbrev pub laid_over : Entries → Changes → Entries
 laid_over base changes = insert_all bytes_eq base changes.0
+
+-- the rows at the positions, in turn; past the last there is none
+abbrev pub entries_at : Entries → List ℕ → Entries
+entries_at es positions = filter_map (slice_get es) positions
+
+-- the base with the other's rows at the positions put in, each in turn
+abbrev pub taken_over : Entries → Entries → List ℕ → Entries
+taken_over base other positions = insert_all bytes_eq base (entries_at other positions)
+
+-- at the positions stand the vertices of the changed rows, in the order of the rows
+abbrev pub ArePositionsOf : Entries → Changes → List ℕ → Type 0
+ArePositionsOf base changes positions = map (slice_get (keys_of (laid_over base changes))) positions ≡ map Some (keys_of changes.0)
+
+-- noted after others is the position of the name among the vertices, or where it is none of them the next, which then is one more
+abbrev pub NotesPosition : List Name → Name → ℕ → List ℕ → List ℕ → ℕ → Type 0
+NotesPosition vertices name next old new later =
+    MatchOption (position (same_name name) vertices) ((new ≡ old ++ next ∷ []) × (later ≡ next + 1)) (λ found. (new ≡ old ++ found ∷ []) × (later ≡ next))
 
 -- the changes fit the base: laid over it they give its vertices and then the created ones, and each target of an edge is among them
 pub record Fits (base : Entries) (changes : Changes) : Type 0 where

@@ -15,3 +15,4 @@ pub mod RightsWords
 pub mod Laws
 pub mod Limits
 pub mod Drafts
+pub mod TakenRows

@@ -1,5 +1,5 @@
 //! Changed rows and new vertices laid over a graph.
-ghost use Rattle.std.specs.Prelude.{◌≡◌, ◌+◌, ◌<◌, ◌≤◌, [], ◌∷◌, true, false, Some, IfOk, IfErr, OnOk, OnErr, bytes_eq, length};
+ghost use Rattle.std.specs.Prelude.{◌≡◌, ◌+◌, ◌^◌, ◌<◌, ◌≤◌, [], ◌∷◌, true, false, Some, IfOk, IfErr, OnOk, OnErr, bytes_eq, length};
 ghost use Rattle.std.specs.Map.{keys_of};
 ghost use Rattle.indexmap.specs.IndexMap.{spare, insert_all};
 ghost use Rattle.indexmap.specs.IndexSet.{insert_key, insert_all as insert_all_keys};
@@ -8,7 +8,7 @@ ghost use Rattle.tg_graph.specs.Rows.{Entries, is_known, IsGraph, Adds, TakesAwa
 ghost use Rattle.tg_graph.specs.Graphs.{has_vertex};
 ghost use Rattle.tg_graph.specs.GraphOf.{graph_of};
 ghost use Rattle.tg_graph.specs.Rules.{verdict, Applies, rights_of, with_rights, without_rights, with_vertex, refusal_of, after};
-ghost use Rattle.tg_graph.specs.Drafts.{laid_over, Fits, IsDraft, PutsRow, written_by, FittingIsByNames, ApartFit, ApartCommute};
+ghost use Rattle.tg_graph.specs.Drafts.{laid_over, Fits, IsDraft, PutsRow, ArePositionsOf, NotesPosition, written_by, FittingIsByNames, ApartFit, ApartCommute};
 
 use crate::checks::{self, Rows};
 use crate::names::Name;
@@ -116,6 +116,30 @@ fn narrow(
     }
 }
 
+// Notes the position of a draft's vertex: the one that it has in the base, or the next past all
+// so far. Gives the next one from then on.
+fn note_position(
+    positions: &mut Vec<usize>,
+    base: &IndexMap<Name, SharedRow>,
+    name: Name,
+    next: usize,
+) -> Result<usize, AllocError>
+    requires { next + 1 < 2 ^ 64 }
+    ensures { IfOk result (NotesPosition (keys_of base.now.entries) name next positions.old.items
+        positions.new.items) }
+{
+    match base.get_index_of(&name) {
+        Some(position) => {
+            positions.push(position)?;
+            Ok(next)
+        }
+        None => {
+            positions.push(next)?;
+            Ok(next + 1)
+        }
+    }
+}
+
 impl Draft {
     /// The draft that changes nothing. It fits each graph.
     pub fn new(alloc: Global) -> Draft
@@ -137,6 +161,20 @@ impl Draft {
         ensures draft { IsDraft self.now }
     {
         self.created.len()
+    }
+
+    /// The positions that the vertices of the draft's rows have in what it stands for, in the order
+    /// of the rows.
+    pub fn positions(&self, base: &Graph) -> Result<Vec<usize>, AllocError>
+        requires { Fits base.now self.now }
+        ensures { IfOk result (λ positions. ArePositionsOf base.now self.now positions.items) }
+    {
+        let mut positions = Vec::with_capacity(self.alloc, self.rows.len())?;
+        let mut next = base.rows.len();
+        for (name, _) in &self.rows {
+            next = note_position(&mut positions, &base.rows, *name, next)?;
+        }
+        Ok(positions)
     }
 
     /// Whether a name is a vertex of what the draft stands for.

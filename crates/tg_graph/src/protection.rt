@@ -6,6 +6,7 @@ ghost use Rattle.tg_graph.specs.Sets.{IsNamed};
 ghost use Rattle.tg_graph.specs.Rows.{is_known, IsLabel, IsGraph, row_number, Adds, ChangesRow};
 ghost use Rattle.tg_graph.specs.Graphs.{has_vertex, WellFormed};
 ghost use Rattle.tg_graph.specs.GraphOf.{graph_of};
+ghost use Rattle.tg_graph.specs.Drafts.{taken_over};
 ghost use Rattle.tg_graph.specs.Rules.{refusal_of, verdict, Applies, rights_of, with_rights, without_rights, with_vertex, after};
 ghost use Rattle.tg_graph.specs.Sets.{is_empty_set};
 ghost use Rattle.tg_graph.specs.Additions.{AddsVertex, AddsEdge, label_at, label_between, Runs, AreNamed};
@@ -395,6 +396,22 @@ impl Graph {
             rows: row_maps::unshared(self.alloc, &self.rows)?,
             alloc: self.alloc,
         })
+    }
+
+    /// Takes over the vertices at some positions of another graph, in turn, each with its row: into
+    /// the place that it has here, or as the last. The vertices are then those of the other graph.
+    /// Rows are shared until they are changed, and no name is looked up where it has the same
+    /// position in both graphs. Want of memory changes nothing.
+    pub fn take_over(&mut self, other: &Graph, positions: &[usize]) -> Result<(), AllocError>
+        requires { keys_of (taken_over self.old other.now positions.now) ≡ keys_of other.now }
+        ensures taken { OnOk result (self.new ≡ taken_over self.old other.now positions.now) }
+        ensures err { OnErr result (self.new ≡ self.old) }
+    {
+        let taken = row_maps::taken_at(self.alloc, &other.rows, positions)?;
+        let missing = other.len().saturating_sub(self.len());
+        self.rows.reserve(missing)?;
+        row_maps::put_all_taken(&mut self.rows, taken);
+        Ok(())
     }
 
     /// The rights of x over y, or `None` where one of them is no vertex.

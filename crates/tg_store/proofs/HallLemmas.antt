@@ -45,6 +45,9 @@ pub view_seat : (h : Inside) (k n i count : ℕ) (s : SeatState) → n ≡ k →
 view_seat h k n i count s m e lt c is =
     seat_of-at (world_of h) k i (e ∙ m) ∙ slice_get-map seen_seat h.seats.items i ∙ ap (option_map seen_seat) (slice_get_read h.seats.items count i s c lt is)
 
+pub view_at : (h : Inside) (i count : ℕ) (s : SeatState) → i < count → count ≡ length h.seats.items → s ≡ get_or h.seats.items i s → slice_get (world_of h).seats i ≡ Some (seen_seat s)
+view_at h i count s lt c is = slice_get-map seen_seat h.seats.items i ∙ ap (option_map seen_seat) (slice_get_read h.seats.items count i s c lt is)
+
 pub view_none : (h : Inside) (k n count : ℕ) → n ≡ k → count ≡ length h.seats.items → (n ≡ 0) ⊎ (count < n) → seat_of (world_of h) k ≡ None
 view_none h k n count m c (inl e) = seat_of-none (world_of h) k (inl (sym m ∙ e))
 view_none h k n count m c (inr lt) = seat_of-none (world_of h) k (inr (let l = length-map h.seats.items seen_seat in omega (arith, l)))

@@ -1,5 +1,5 @@
 -- Acts of a seat: lists of events.
-use Rattle.std.specs.Prelude.{◌≡◌, ℕ, Bool, true, false, MatchBool, List, [], ◌∷◌, ◌++◌, length, map, replicate, is_none, ⊤}
+use Rattle.std.specs.Prelude.{◌≡◌, ℕ, ◌+◌, ◌<◌, None, Some, slice_get, Bool, true, false, MatchBool, List, [], ◌∷◌, ◌++◌, length, map, replicate, is_none, ⊤}
 use Rattle.std.specs.Option.{option_map_or}
 use Rattle.tg_graph.specs.declared.session.Act.{Act}
 use Rattle.tg_graph.specs.declared.session.Act.TheVariants as act
@@ -8,7 +8,7 @@ use Rattle.tg_store.specs.declared.events.Event.TheVariants.{Begin, Learn, Stage
 use Rattle.tg_store.specs.declared.events.HallReply.{HallReply}
 use Rattle.tg_store.specs.declared.events.HallReply.TheVariants as reply
 use Rattle.tg_store.specs.StepWords.{IsNamedStep}
-use Rattle.tg_store.specs.Worlds.{World, seat_of, Happens, Run}
+use Rattle.tg_store.specs.Worlds.{World, SeatView, seat_of, Happens, Run}
 
 -- whether a reply says that a record was taken in
 abbrev pub is_learned : HallReply → Bool
@@ -22,6 +22,20 @@ is_learned (reply.Refused fault) = false
 -- whether there is such a seat, with no open session
 abbrev pub is_free : World → ℕ → Bool
 is_free w k = option_map_or (λ s. is_none s.session) (seat_of w k) false
+
+-- a free seat that has taken in all that there is
+abbrev pub caught_up : World → SeatView
+caught_up w = record { taken = length w.history; session = None }
+
+-- the seat of a number stands at the index and has not taken in all, and that at the other index has
+pub record IsBehind (w : World) (k index other : ℕ) : Type 0 where
+  pub seat : SeatView
+  pub source : SeatView
+  pub number : index + 1 ≡ k
+  pub seat_is : slice_get w.seats index ≡ Some seat
+  pub source_is : slice_get w.seats other ≡ Some source
+  pub some_left : seat.taken < length w.history
+  pub none_left : source.taken ≡ length w.history
 
 -- an event again and again: each reply but the last says that a record was taken in
 pub record Repeats (w : World) (event : Event) (answer : HallReply) (v : World) : Type 0 where

@@ -5,6 +5,7 @@ use Rattle.tg_graph.specs.Limits.{most_cells}
 use Rattle.tg_store.specs.declared.halls.Hall.TheInside.{Inside}
 use Rattle.tg_store.specs.Histories.{IsLegal, IsNumbered}
 use Rattle.tg_store.specs.Worlds.{World}
+use Rattle.tg_store.specs.Trails.{IsTrail}
 use Rattle.tg_store.specs.Seats.{seen_seat, IsConsistent, Rests, AreCounted}
 
 abbrev pub world_of : Inside → World
@@ -17,4 +18,5 @@ pub record IsHall (h : Inside) : Type 0 where
   pub numbered : IsNumbered h.records.items
   pub rests : All (Rests (graph_of h.opening) h.records.items) h.seats.items
   pub consistent : All IsConsistent h.seats.items
+  pub trail : IsTrail (graph_of h.opening) h.records.items h.trail
   pub counted : AreCounted h.records.items h.seats.items

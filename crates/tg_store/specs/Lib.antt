@@ -7,6 +7,7 @@ pub mod Told
 pub mod Drafted
 pub mod Worlds
 pub mod Seats
+pub mod Trails
 pub mod HallFields
 pub mod Acts
 pub mod Running

@@ -6,15 +6,17 @@ ghost use Rattle.tg_graph.specs.GraphOf.{graph_of};
 ghost use Rattle.tg_graph.specs.Limits.{most_cells};
 ghost use Rattle.tg_store.specs.Answers.{AreAnswers};
 ghost use Rattle.tg_store.specs.Histories.{replay, count_of, IsLegal, IsNumbered, AreApart};
-ghost use Rattle.tg_store.specs.Worlds.{takes_memory, is_short_of_memory, fresh_seat, seat_of, seat_in, rests_on, TakeWithin, HoldTrue, Moves, Happens, Run, IsStageable, OpensHall};
-ghost use Rattle.tg_store.specs.Acts.{is_learned, is_free, MayLearn, Repeats, CatchesUp, Acts, IsStageableAct};
+ghost use Rattle.tg_store.specs.Worlds.{takes_memory, is_short_of_memory, fresh_seat, seat_of, seat_in, rests_on, with_seat, TakeWithin, HoldTrue, Moves, Happens, Run, IsStageable, OpensHall};
+ghost use Rattle.tg_store.specs.Acts.{is_learned, is_free, caught_up, IsBehind, MayLearn, Repeats, CatchesUp, Acts, IsStageableAct};
 ghost use Rattle.std.specs.Vec.{vec_capacity};
+ghost use Rattle.tg_store.specs.Trails.{IsTrail};
 ghost use Rattle.tg_store.specs.Seats.{seen_seat, IsConsistent, Rests};
 
 use crate::events::{Event, HallFault, HallReply, StoreFault};
 use crate::records::Record;
 use crate::replays;
-use crate::seats::SeatState;
+use crate::seats::{self, SeatState};
+use crate::trails::Trail;
 use std::alloc::{AllocError, Global};
 use std::marker::Model;
 use tg_graph::{Act, Graph, MOST_CELLS, MOST_SEATS, MOST_VERTICES, Refusal, Reply};
@@ -27,6 +29,7 @@ pub struct Hall {
     opening: Graph,
     cells: usize,
     records: Vec<Record>,
+    trail: Trail,
     seats: Vec<SeatState>,
     alloc: Global,
 }
@@ -89,6 +92,7 @@ fn event_at(
     seat: &mut SeatState,
     cells: usize,
     records: &mut Vec<Record>,
+    trail: &mut Trail,
     event: &Event,
 ) -> HallReply
     requires stageable { IsStageable event.now }
@@ -103,6 +107,8 @@ fn event_at(
         (seen_seat seat.old) event.now result (seen_seat seat.new) records.new.items }
     ensures rests { (g : ProtectionGraph) → Rests g records.old.items seat.old
         → Rests g records.new.items seat.new }
+    ensures trail { (g : ProtectionGraph) → Rests g records.old.items seat.old
+        → IsTrail g records.old.items trail.old → IsTrail g records.new.items trail.new }
     ensures consistent { IsConsistent seat.new }
     ensures counted { seat.new.commits ≡ count_of (seat_in event.now) records.new.items }
     ensures spared { takes_memory event.now ≡ false → is_short_of_memory result ≡ false }
@@ -111,7 +117,7 @@ fn event_at(
         Event::Begin(_) => seat.begin(),
         Event::Learn(_) => seat.learn(records.as_slice()),
         Event::Stage(_, step) => seat.stage(step),
-        Event::Put(number) => seat.put(number, cells, records),
+        Event::Put(number) => seat.put(number, cells, records, trail),
         Event::Abort(_) => seat.abort(),
     }
 }
@@ -164,6 +170,7 @@ impl Hall {
             opening,
             cells,
             records: Vec::new(alloc),
+            trail: Trail::new(alloc),
             seats,
             alloc,
         })
@@ -216,29 +223,15 @@ impl Hall {
         Some(seat.graph())
     }
 
-    // The number of a seat that has taken in the most. Each seat leads to the same graph: this one
-    // soonest.
-    fn furthest(&self) -> u32 {
-        let mut furthest = 1;
-        let mut most = 0;
-        for number in 1..=MOST_SEATS {
-            if let Some(taken) = self.taken(number) {
-                if taken > most {
-                    furthest = number;
-                    most = taken;
-                }
-            }
-        }
-        furthest
-    }
-
     /// The replay of the whole history, which is legal.
     pub fn last(&self) -> Result<Graph, AllocError>
         ensures graph { IfOk result
             (λ graph. graph_of graph ≡ replay (graph_of self.now.opening) self.now.history) }
         ensures legal { IsLegal (graph_of self.now.opening) self.now.history }
     {
-        match self.seat(self.furthest()) {
+        // each seat leads there, and the one that put the last record has nothing left to take in
+        let newest = self.records.last().map_or(1, |record| record.seat);
+        match self.seat(newest) {
             Some(seat) => seat.replayed(self.records.as_slice()),
             None => replays::replayed(&self.opening, self.records.as_slice()),
         }
@@ -252,7 +245,13 @@ impl Hall {
     {
         match index_of(seat_in(event), self.seats.len()) {
             None => HallReply::Refused(HallFault::NoSeat),
-            Some(i) => event_at(&mut self.seats[i], self.cells, &mut self.records, event),
+            Some(i) => event_at(
+                &mut self.seats[i],
+                self.cells,
+                &mut self.records,
+                &mut self.trail,
+                event,
+            ),
         }
     }
 
@@ -307,11 +306,55 @@ impl Hall {
         }
     }
 
-    // A seat takes in all that is left, and then opens a session.
+    // A seat that is behind, and another that has taken in all, as the one that put the last record
+    // has: their indices.
+    fn behind(&self, seat: u32) -> Option<(usize, usize)>
+        ensures { IfSome result (λ pair. IsBehind self.now seat pair.0 pair.1) }
+    {
+        let all = self.records.len();
+        let newest = self.records.last()?.seat;
+        let index = index_of(seat, self.seats.len())?;
+        let other = index_of(newest, self.seats.len())?;
+        if self.seats[index].taken() < all && self.seats[other].taken() == all {
+            Some((index, other))
+        } else {
+            None
+        }
+    }
+
+    // A free seat takes in all that is left at once, over from another that has taken in all: at
+    // the cost of the vertices that were written since.
+    fn take_over(&mut self, index: usize, other: usize) -> Result<(), AllocError>
+        requires behind { IsBehind self.old (index + 1) index other }
+        requires free { is_free self.old (index + 1) ≡ true }
+        ensures took { OnOk result
+            (self.new ≡ with_seat self.old (index + 1) (caught_up self.old) self.old.history) }
+        ensures err { OnErr result (self.new ≡ self.old) }
+    {
+        let positions = self.trail.from(self.seats[index].taken());
+        seats::take_over(self.seats.as_mut_slice(), index, other, positions)
+    }
+
+    // A free seat takes in all that is left.
+    fn learn_all(&mut self, seat: u32) -> HallReply
+        requires { is_free self.old seat ≡ true }
+        ensures { Repeats self.old (Event.Learn seat) result self.new }
+    {
+        match self.behind(seat) {
+            None => self.repeat(&Event::Learn(seat)),
+            Some((index, other)) => match self.take_over(index, other) {
+                Ok(()) => HallReply::Nothing,
+                Err(AllocError) => HallReply::Refused(HallFault::Memory),
+            },
+        }
+    }
+
+    // A free seat takes in all that is left, and then opens a session.
     fn catch_up(&mut self, seat: u32) -> HallReply
+        requires { is_free self.old seat ≡ true }
         ensures { CatchesUp self.old seat result self.new }
     {
-        let told = self.repeat(&Event::Learn(seat));
+        let told = self.learn_all(seat);
         match told {
             HallReply::Nothing => self.happen(&Event::Begin(seat)),
             other => other,

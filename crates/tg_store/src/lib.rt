@@ -30,6 +30,7 @@ mod stores;
 mod test_helpers;
 #[cfg(test)]
 mod tests;
+mod trails;
 mod weighing;
 
 pub use answers::{Answered, Steps};

@@ -8,6 +8,7 @@ ghost use Rattle.tg_store.specs.StepWords.{IsNamedStep};
 ghost use Rattle.tg_store.specs.Histories.{replay};
 ghost use Rattle.tg_store.specs.Answers.{lack_of_room, session_refusal, IsAnswer, unknown_of_two, after_step, after_steps};
 ghost use Rattle.tg_store.specs.Touches.{step_writes};
+ghost use Rattle.tg_store.specs.Trails.{LeadsBy, vertices_at};
 ghost use Rattle.tg_store.specs.Drafted.{drafted, GainsRows, IsDraftOf};
 
 use crate::answers::Answered;
@@ -189,6 +190,20 @@ pub fn merge(graph: &mut Graph, draft: Draft) -> Result<(), AllocError>
         Ok(()) => Ok(()),
         Err(_draft) => Err(AllocError),
     }
+}
+
+/// Brings a graph to where another stands, to which the vertices at the positions lead from it. An
+/// error changes nothing.
+pub fn take_over(graph: &mut Graph, source: &Graph, positions: &[usize]) -> Result<(), AllocError>
+    requires { LeadsBy (graph_of graph.old) (vertices_at (graph_of source.now) positions.now)
+        (graph_of source.now) }
+    ensures graph { OnOk result (graph_of graph.new ≡ graph_of source.now) }
+    ensures err { OnErr result (graph.new ≡ graph.old) }
+{
+    // no vertex stands twice in the source: this `len` says
+    let _ = source.len();
+    graph.take_over(source, positions)?;
+    Ok(())
 }
 
 /// Lays steps on a graph again. An error changes nothing.

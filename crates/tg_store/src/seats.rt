@@ -1,21 +1,25 @@
 //! The seats of a hall.
-ghost use Rattle.std.specs.Prelude.{◌≡◌, ◌<◌, ◌≤◌, ◌∷◌, ◌++◌, [], List, All, IsSome, IfOk, OnOk, OnErr, IfSome, Some, None, length, slice_get, vec_len, not, is_none, false};
+ghost use Rattle.std.specs.Prelude.{◌≡◌, ◌≢◌, ◌<◌, ◌≤◌, ◌∷◌, ◌++◌, [], List, All, IsSome, IfOk, OnOk, OnErr, IfSome, Some, None, length, slice_get, vec_len, not, is_none, false};
 ghost use Rattle.std.specs.Vec.{vec_capacity};
 ghost use Rattle.tg_graph.specs.Graphs.{ProtectionGraph};
 ghost use Rattle.tg_graph.specs.GraphOf.{graph_of};
+ghost use Rattle.tg_graph.specs.Drafts.{ArePositionsOf};
 ghost use Rattle.tg_graph.specs.Limits.{most_cells};
 ghost use Rattle.tg_store.specs.declared.records.Record.{Record};
 ghost use Rattle.tg_store.specs.StepWords.{IsNamedStep};
 ghost use Rattle.tg_store.specs.Answers.{IsAnswer, AreAnswers, after_steps};
 ghost use Rattle.tg_store.specs.Histories.{count_of, replay};
 ghost use Rattle.tg_store.specs.Touches.{IsClear};
+ghost use Rattle.tg_store.specs.Trails.{HasRoom, SameTrail, IsTrail, LeadsBy, TakesOver, vertices_at};
 ghost use Rattle.tg_store.specs.Worlds.{is_short_of_memory, one_further, fresh_seat, Begins, TakesIn, Learns, Stages, Aborts, Joins, Puts};
 
 use crate::answers::{Answered, Steps};
 use crate::events::{HallFault, HallReply};
 use crate::records::Record;
+use crate::trails::Trail;
 use crate::{replays, spoilers};
 use std::alloc::{AllocError, Global};
+use std::mem;
 use tg_graph::{Draft, Graph, Refusal, Reply, Rule, Step};
 
 /// An open session: its draft over the graph of its seat, and its steps with their replies.
@@ -103,6 +107,22 @@ impl SeatState {
             session: None,
             alloc,
         })
+    }
+
+    // Lends its graph, and has the empty one meanwhile.
+    fn lend_graph(&mut self) -> Graph
+        ensures graph { result ≡ self.old.graph }
+        ensures rest { self.new ≡ record self.old { graph = [] } }
+    {
+        mem::replace(&mut self.graph, Graph::new(self.alloc))
+    }
+
+    // Has a graph, to which so many records lead.
+    fn settle(&mut self, graph: Graph, taken: usize)
+        ensures { self.new ≡ record self.old { graph = graph; taken = taken } }
+    {
+        self.graph = graph;
+        self.taken = taken;
     }
 
     /// How many records the seat has taken in.
@@ -296,8 +316,37 @@ impl SeatState {
         }
     }
 
+    // Makes room for the record of the open session, and tells where it wrote.
+    fn make_room(
+        &self,
+        records: &mut Vec<Record>,
+        trail: &mut Trail,
+    ) -> Result<Vec<usize>, AllocError>
+        requires { IsConsistent self.now }
+        ensures records { records.new.items ≡ records.old.items }
+        ensures trail { SameTrail trail.old trail.new }
+        ensures room { OnOk result (vec_len records.new < vec_capacity records.new) }
+        ensures trail_room { IfOk result (λ positions. HasRoom trail.new (length positions.items)) }
+        ensures positions { IfOk result (λ positions. IfSome self.now.session
+            (λ o. ArePositionsOf self.now.graph o.draft positions.items)) }
+    {
+        records.reserve(1)?;
+        let positions = match &self.session {
+            Some(session) => session.draft.positions(&self.graph)?,
+            None => Vec::new(self.alloc),
+        };
+        trail.reserve(positions.len())?;
+        Ok(positions)
+    }
+
     // Puts the open session at the end of the history.
-    fn join(&mut self, number: u32, cells: usize, records: &mut Vec<Record>) -> HallReply
+    fn join(
+        &mut self,
+        number: u32,
+        cells: usize,
+        records: &mut Vec<Record>,
+        trail: &mut Trail,
+    ) -> HallReply
         requires consistent { IsConsistent self.old }
         requires counted { self.old.commits ≡ count_of number records.old.items }
         requires open { IsSome self.old.session }
@@ -308,12 +357,14 @@ impl SeatState {
             Joins cells number records.old.items steps (seen_seat self.old) result (seen_seat self.new) records.new.items) }
         ensures rests { (g : ProtectionGraph) → Rests g records.old.items self.old
             → Rests g records.new.items self.new }
+        ensures trail { (g : ProtectionGraph) → Rests g records.old.items self.old
+            → IsTrail g records.old.items trail.old → IsTrail g records.new.items trail.new }
         ensures consistent { IsConsistent self.new }
         ensures counted { self.new.commits ≡ count_of number records.new.items }
     {
-        if records.reserve(1).is_err() {
+        let Ok(positions) = self.make_room(records, trail) else {
             return HallReply::Refused(HallFault::Memory);
-        }
+        };
         let place = records.len();
         if let Some(session) = self.session.take() {
             let OpenSession { draft, kept } = session;
@@ -329,6 +380,7 @@ impl SeatState {
                 number: self.commits,
                 steps: Steps::from_vec(kept),
             });
+            trail.note(positions.as_slice());
             self.taken += 1;
             self.commits += 1;
         }
@@ -337,7 +389,13 @@ impl SeatState {
 
     /// Puts the open session at the end of the history, or takes in the next record where one is
     /// left.
-    pub fn put(&mut self, number: u32, cells: usize, records: &mut Vec<Record>) -> HallReply
+    pub fn put(
+        &mut self,
+        number: u32,
+        cells: usize,
+        records: &mut Vec<Record>,
+        trail: &mut Trail,
+    ) -> HallReply
         requires consistent { IsConsistent self.old }
         requires counted { self.old.commits ≡ count_of number records.old.items }
         requires answers { IfSome (slice_get records.old.items self.old.taken)
@@ -349,6 +407,8 @@ impl SeatState {
             (seen_seat self.old) result (seen_seat self.new) records.new.items }
         ensures rests { (g : ProtectionGraph) → Rests g records.old.items self.old
             → Rests g records.new.items self.new }
+        ensures trail { (g : ProtectionGraph) → Rests g records.old.items self.old
+            → IsTrail g records.old.items trail.old → IsTrail g records.new.items trail.new }
         ensures consistent { IsConsistent self.new }
         ensures counted { self.new.commits ≡ count_of number records.new.items }
     {
@@ -362,6 +422,32 @@ impl SeatState {
             self.session = None;
             return HallReply::Refused(HallFault::JournalFull);
         }
-        self.join(number, cells, records)
+        self.join(number, cells, records, trail)
     }
+}
+
+/// A seat comes to where another seat stands, to whose graph the vertices at the positions lead
+/// from its own. An error changes nothing.
+pub fn take_over(
+    seats: &mut [SeatState],
+    index: usize,
+    other: usize,
+    positions: &[usize],
+) -> Result<(), AllocError>
+    requires apart { index ≢ other }
+    requires within { (index < length seats.old) × (other < length seats.old) }
+    requires leads { (s t : SeatState) → slice_get seats.old index ≡ Some s
+        → slice_get seats.old other ≡ Some t → LeadsBy (graph_of s.graph)
+        (vertices_at (graph_of t.graph) positions.now) (graph_of t.graph) }
+    ensures ok { OnOk result (TakesOver seats.old index other seats.new) }
+    ensures err { OnErr result (seats.new ≡ seats.old) }
+{
+    let mut graph = seats[index].lend_graph();
+    let outcome = replays::take_over(&mut graph, &seats[other].graph, positions);
+    let taken = match outcome {
+        Ok(()) => seats[other].taken,
+        Err(AllocError) => seats[index].taken,
+    };
+    seats[index].settle(graph, taken);
+    outcome
 }

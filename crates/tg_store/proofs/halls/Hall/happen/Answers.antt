@@ -47,6 +47,7 @@ invariant_of-self c =
       numbered = numbered-later g h.cells k h.records.items s later rest c.self.invariant.numbered grown;
       rests = All-set (Rests g later) h.seats.items c.in-Some.i t (c.event_at.ensures.rests g rest) (rests-later g h.cells k h.records.items s later rest grown h.seats.items c.self.invariant.rests);
       consistent = All-set IsConsistent h.seats.items c.in-Some.i t c.event_at.ensures.consistent c.self.invariant.consistent;
+      trail = c.event_at.ensures.trail g rest c.self.invariant.trail;
       counted = counted-later h.cells k c.in-Some.i h.records.items later h.seats.items (seen_seat s) t (c.in-Some.ensures.0 ∙ c.seat_in.ensures) grown c.event_at.ensures.counted c.self.invariant.counted;
     }
 

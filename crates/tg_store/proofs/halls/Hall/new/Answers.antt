@@ -4,6 +4,9 @@ use Rattle.std.proofs.lemmas.List.{length-map}
 use Rattle.std.proofs.lemmas.Result.{err_from_is_err_and}
 use Rattle.tg_store.specs.Worlds.{OpensHall}
 use Rattle.tg_store.specs.Seats.{AreCounted}
+use Rattle.tg_graph.specs.GraphOf.{graph_of}
+use Rattle.tg_store.specs.Trails.{IsTrail}
+use Rattle.tg_store.proofs.TrailLemmas.{trail-none}
 use Rattle.tg_store.proofs.HallLemmas.{fresh_counts}
 use Rattle.tg_store.proofs.halls.Hall.new.Goals as goal
 
@@ -13,6 +16,7 @@ invariant_of-result c = record {
   room = search rules;
   legal = search rules;
   numbered = search rules;
+  trail = let g = graph_of c.in_ok-opening.opening in subst (λ records. IsTrail g records c.new-2.result) (sym c.new.ensures.items) (trail-none g c.new-2.result c.new-2.ensures.positions c.new-2.ensures.starts);
   rests = search rules;
   consistent = search rules;
   counted = let h : AreCounted [] c.in_ok-seats.seats.items = fresh_counts c.in_ok-seats.seats.items c.in_ok-seats.ensures.fresh in search rules;
