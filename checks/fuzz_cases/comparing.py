@@ -199,6 +199,9 @@ def require_race(program, texts):
 
 def race_case(program, make):
     """`race`, of one seat or several."""
+    if make.chance.random() < 0.02:
+        require_race(program, make.crowded_race())
+        return
     seats = make.chance.choice([1, 2, 2, 3, 3, 4])
     require_race(program, make.spoil.one_of(make.graph_and_script(seats), 0.1))
 
@@ -229,11 +232,7 @@ def words_case(program, make):
 
 def limits_case(program, make):
     """Texts at their limits."""
-    command, texts, further = make.at_limits()
-    if command == b"race":
-        require_race(program, texts)
-    else:
-        require_report(program, command, texts, further)
+    require_report(program, *make.at_limits())
 
 
 # Each kind with its share of the cases.

@@ -23,6 +23,7 @@ class Maker:
             names = [f"v{i}" for i in range(chance.randint(20, 60))]
         self.graph = Graph(names)
         self.new_names = chance.sample(NAMES + FRESH, chance.choice([1, 3, 10]))
+        self.fresh = chance.choice([0.02, 0.05, 0.25])
         dense = chance.choice([0.05, 0.2, 0.4, 0.8])
         labels = chance.choice([LETTERS, "tg", "rwe", "tgr", "tgrw", "gr", "tr"])
         most = 4 if len(names) > 9 else len(names)
@@ -33,9 +34,9 @@ class Maker:
 
     # pieces
 
-    def name(self, fresh=0.05):
+    def name(self):
         """A vertex of the graph, seldom another name."""
-        if not self.graph.names or self.chance.random() < fresh:
+        if not self.graph.names or self.chance.random() < self.fresh:
             return self.chance.choice(self.new_names)
         return self.chance.choice(sorted(self.graph.names))
 
@@ -83,7 +84,7 @@ class Maker:
 
     def question(self):
         """The words of a question about sharing."""
-        return [self.right().encode(), self.name(0.02).encode(), self.name(0.02).encode()]
+        return [self.right().encode(), self.name().encode(), self.name().encode()]
 
     def workers(self):
         """The words that say how many workers make a table, or none."""
@@ -197,7 +198,7 @@ class Maker:
     def at_limits(self):
         """A command, its texts and its further words, at the limits of the texts."""
         ways = [self.many_vertices, self.many_rules, self.many_events, self.many_commits]
-        return self.chance.choice([*ways, self.full_sessions, self.crowded_race])()
+        return self.chance.choice([*ways, self.full_sessions])()
 
     def many_vertices(self):
         """As many vertices as there may be, one less or one more, and a chain of links."""
@@ -240,7 +241,7 @@ class Maker:
         return b"run", [graph, b"seats 2\ncells 9\n" + b"\n".join(events)], []
 
     def crowded_race(self):
-        """Seats that create more vertices at once than there may be."""
+        """The two texts of a race whose seats create more vertices at once than there may be."""
         graph = b"".join(b"vertex v%d\n" % i for i in range(1000))
         lines = [b"seats 4", b"cells 200"]
         for seat, i in product(range(1, 5), range(self.chance.randint(5, 30))):
@@ -248,4 +249,4 @@ class Maker:
             acts = [b"begin", b"create v%d n%d_%d -" % (seat, seat, i)]
             acts += [b"holds r v%d v0" % seat] * 20 + [b"commit"]
             lines += (b"%d %s" % (seat, act) for act in acts)
-        return b"race", [graph, b"\n".join(lines)], []
+        return [graph, b"\n".join(lines)]
