@@ -1,5 +1,6 @@
 # make demo       proves and builds the program, and shows it on the file service of examples/
 # make examples   compares what each example prints with what is stored beside it
+# make pictures   draws the examples; wants Graphviz
 # make test       the merge gate: every proof from nothing, the wrong bodies, the tests, the program;
 #                 some 40 minutes on four cores
 # make refusals   the memory tests with each request for memory refused in turn: seconds, once the
@@ -14,7 +15,12 @@ OFFICER = crates/officer/out/officer
 FILES = examples/file_service
 GRAPH = $(FILES).graph
 
-.PHONY: build demo examples test refusals man bench races hostile fuzz
+SHOP = examples/web_shop
+KERNEL = examples/microkernel
+PICTURES = examples/pictures
+OPEN_KERNEL = echo 'edge nic_driver log_server g' | cat $(KERNEL).graph -
+
+.PHONY: build demo examples pictures test refusals man bench races hostile fuzz
 
 build:
 	@echo "Proving and building officer and the crates below it: some six minutes on four cores from nothing, seconds after that."
@@ -43,7 +49,42 @@ examples: build
 	@$(OFFICER) table $(GRAPH) r | diff - $(FILES).table.out
 	@$(OFFICER) run $(GRAPH) $(FILES).script | diff - $(FILES).script.out
 	@$(OFFICER) race $(GRAPH) $(FILES).race.script | diff - $(FILES).race.out
+	@tools/from_rbac $(SHOP).json | diff - $(SHOP).graph
+	@tools/from_rbac $(SHOP).json --without 'serviceaccounts deploy/deployer' | diff - $(SHOP).trusted.graph
+	@sed 's/"roleRef"/"role"/' $(SHOP).json | tools/from_rbac 2>&1 | diff - $(SHOP).faulty.out
+	@sed 's/"ServiceAccount", "meta/"Pod", "meta/' $(SHOP).json | tools/from_rbac 2>&1 | diff - $(SHOP).foreign.out
+	@python3 bench/cluster.py 4000 | tools/from_rbac 2>&1 | diff - $(SHOP).too_large.out
+	@$(OFFICER) derive $(SHOP).graph r runner payment_key | diff - $(SHOP).runner.out
+	@$(OFFICER) derive $(SHOP).graph r shop_team payment_key | diff - $(SHOP).team.out
+	@$(OFFICER) share $(SHOP).trusted.graph r shop_team payment_key | diff - $(SHOP).trusted.out
+	@$(OFFICER) islands $(KERNEL).graph | diff - $(KERNEL).islands.out
+	@$(OFFICER) share $(KERNEL).graph r nic_driver keys | diff - $(KERNEL).share.out
+	@$(OPEN_KERNEL) | $(OFFICER) derive /dev/stdin r nic_driver keys | diff - $(KERNEL).derive.out
+	$(call each_picture,compare_picture)
 	@echo "Each example prints what is stored beside it."
+
+# The pictures: of each its name, the text that is drawn, and what is asked of it.
+define each_picture
+$(call $(1),file_service,cat $(GRAPH))
+$(call $(1),file_service.derive,cat $(GRAPH),--derive t service clerk)
+$(call $(1),file_service.share,cat $(GRAPH),--share r payroll)
+$(call $(1),web_shop,cat $(SHOP).graph)
+$(call $(1),web_shop.team,cat $(SHOP).graph,--derive r shop_team payment_key)
+$(call $(1),web_shop.runner,cat $(SHOP).trusted.graph,--derive r runner payment_key)
+$(call $(1),web_shop.share,cat $(SHOP).trusted.graph,--share r payment_key)
+$(call $(1),microkernel,cat $(KERNEL).graph)
+$(call $(1),microkernel.derive,$(OPEN_KERNEL),--derive r nic_driver keys)
+$(call $(1),cluster,python3 bench/cluster.py 400 | tools/from_rbac)
+endef
+
+draw = $(2) | tools/picture /dev/stdin $(3) --officer $(OFFICER)
+compare_picture = @$(draw) | diff - $(PICTURES)/$(1).dot
+write_picture = @$(draw) > $(PICTURES)/$(1).dot && dot -Tsvg $(PICTURES)/$(1).dot -o $(PICTURES)/$(1).svg
+
+pictures: build
+	@command -v dot > /dev/null || { echo "The pictures want Graphviz: apt install graphviz, dnf install graphviz or brew install graphviz."; exit 1; }
+	$(call each_picture,write_picture)
+	@echo "The pictures are in $(PICTURES)."
 
 test:
 	@rt ci
@@ -56,6 +97,9 @@ man:
 
 bench: build
 	@python3 bench/bench.py $(OFFICER)
+	@echo "A cluster of 1,000 objects, from its listing to its islands:"
+	@python3 bench/cluster.py 1000 > crates/officer/out/cluster.json
+	@time -p sh -c 'tools/from_rbac crates/officer/out/cluster.json | $(OFFICER) islands /dev/stdin > crates/officer/out/islands'
 
 races: build
 	@python3 checks/races.py $(OFFICER)
