@@ -19,9 +19,13 @@ import tempfile
 import time
 
 TOP = os.path.dirname(os.path.dirname(os.path.abspath(__file__)))
+# the time limit of a run
 SECONDS = 60
-NO_END = 2**62
+# more requests than a test makes
 MOST = 100_000
+# the last of all requests
+NO_END = 2**62
+# the status of a test that ends with an error
 ERROR = 101
 
 

@@ -11,6 +11,8 @@
 mod answer_tests;
 mod answers;
 mod events;
+#[cfg(test)]
+mod famine_tests;
 mod halls;
 #[cfg(test)]
 mod memory_tests;
@@ -21,6 +23,8 @@ mod running_seats;
 mod running_sessions;
 mod seats;
 mod spoilers;
+#[cfg(test)]
+mod store_famine_tests;
 #[cfg(test)]
 mod store_memory_tests;
 #[cfg(test)]

@@ -1,5 +1,5 @@
-// Each test passes whichever one request for memory is refused: `rt try --test --fail-alloc N --
-// memory_tests`, for N from 1 on. Where a call was refused memory, its second try has it.
+// Each test passes whichever one request for memory is refused, which `make refusals` tries. Where a
+// call was refused memory, its second try has it.
 ghost use Rattle.tg_store.specs.Acts.{IsStageableAct};
 ghost use Rattle.tg_store.specs.StepWords.{IsNamedStep};
 ghost use Rattle.tg_store.specs.Worlds.{IsStageable};
@@ -124,15 +124,6 @@ fn refused_events(rt: HostRuntime) -> Result<(), Fail> {
     happens(&rt, &mut hall, Event::Put(1), HallReply::Put(0));
     happens(&rt, &mut hall, Event::Learn(2), HallReply::Learned(0));
     assert!(rt; hall.len() == 1 && hall.taken(2) == Some(1));
-    Ok(())
-}
-
-// To open a session takes no memory.
-#[test]
-fn bare_begin(rt: HostRuntime) -> Result<(), Fail> {
-    let mut hall = opened(&rt, rt.alloc())?;
-    assert!(rt; hall.step(Event::Begin(1)) == HallReply::Done);
-    assert!(rt; hall.act(2, &Act::Begin) == HallReply::Done);
     Ok(())
 }
 

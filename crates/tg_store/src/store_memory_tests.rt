@@ -1,78 +1,95 @@
-// Each test passes whichever one request for memory is refused: `rt try --test --fail-alloc N --
-// memory_tests`, for N from 1 on. Where a call was refused memory, its second try has it.
-ghost use Rattle.std.specs.Prelude.{◌≡◌, IfOk, Some, length, slice_get};
-ghost use Rattle.tg_store.specs.StepWords.{IsNamedStep};
+// Each test passes whichever one request for memory is refused, which `make refusals` tries. Where a
+// call was refused memory, its second try has it.
+ghost use Rattle.std.specs.Prelude.{◌≡◌, ◌<◌, ◌+◌, ℕ, IfOk, Some, length, slice_get, take};
 ghost use Rattle.tg_store.specs.Running.{IsOf, first_seat};
 
-use crate::{Begun, Committed, Seat, Session, Store, StoreFault};
-use std::alloc::Global;
+use crate::test_helpers::{create, holds, name, set, take};
+use crate::{
+    BeginFault, Begun, Committed, Record, Seat, Session, Store, StoreFault, StoreMeetFault,
+};
+use std::alloc::{AllocError, Global};
 use std::process::Abort;
-use tg_graph::{Graph, Name, Refusal, Reply, Right, Step};
+use std::test::Fail;
+use tg_graph::{Graph, Refusal, Reply, Right};
+use tg_journal::Front;
 
-// One seat and four cells over the empty graph.
-fn started(alloc: Global, graph: &Graph) -> Result<(Store, Vec<Seat>), StoreFault>
-    ensures one { IfOk result (λ r. length r.1.items ≡ 1) }
-    ensures first { IfOk result (λ r. slice_get r.1.items 0 ≡ Some (first_seat r.0 1)) }
+// The vertices a, b, c and d. a has t over b, and b has r over c.
+fn four(rt: &impl Abort, alloc: Global) -> Option<Graph> {
+    let mut graph = Graph::new(alloc);
+    for letter in b"abcd" {
+        graph.add_vertex(name(rt, *letter)).ok()?;
+    }
+    let (a, b, c) = (name(rt, b'a'), name(rt, b'b'), name(rt, b'c'));
+    graph.add_edge(a, b, set(rt, b"t")).ok()?;
+    graph.add_edge(b, c, set(rt, b"r")).ok()?;
+    Some(graph)
+}
+
+// Four cells.
+fn started(alloc: Global, graph: &Graph, seats: u32) -> Result<(Store, Vec<Seat>), StoreFault>
+    ensures count { IfOk result (λ r. length r.1.items ≡ seats) }
+    ensures seats { IfOk result
+        (λ r. (k : ℕ) → k < seats → slice_get r.1.items k ≡ Some (first_seat r.0 (k + 1))) }
 {
-    match Store::start(alloc, graph, 4, 1) {
+    match Store::start(alloc, graph, 4, seats) {
         Ok(made) => Ok(made),
-        Err(StoreFault::Memory) => Store::start(alloc, graph, 4, 1),
+        Err(StoreFault::Memory) => Store::start(alloc, graph, 4, seats),
         Err(fault) => Err(fault),
     }
 }
 
-fn opened(rt: &impl Abort, alloc: Global) -> (Store, Seat)
-    ensures { IsOf result.0 result.1 }
+// A store over the four vertices with two seats.
+fn opened(rt: &impl Abort, alloc: Global) -> (Store, Seat, Seat)
+    ensures one { IsOf result.0 result.1 }
+    ensures two { IsOf result.0 result.2 }
 {
-    let Ok((store, mut seats)) = started(alloc, &Graph::new(alloc)) else {
+    let graph = match four(rt, alloc) {
+        Some(graph) => graph,
+        None => four(rt, alloc).expect(rt, "a graph"),
+    };
+    let Ok((store, mut seats)) = started(alloc, &graph, 2) else {
         panic!(rt; "no store");
     };
-    let Some(seat) = seats.pop() else {
-        panic!(rt; "no seat");
+    let (Some(two), Some(one)) = (seats.pop(), seats.pop()) else {
+        panic!(rt; "no seats");
     };
-    (store, seat)
+    (store, one, two)
 }
 
-// To open a session takes no memory where nothing is to be taken in.
 fn begun(rt: &impl Abort, store: &Store, seat: Seat) -> Session
     requires { IsOf store.now seat }
     ensures { IsOf store.now result.seat }
 {
-    match store.begin(seat) {
+    let answer = match store.begin(seat) {
+        Begun::Refused(seat, BeginFault::Memory) => store.begin(seat),
+        answer => answer,
+    };
+    match answer {
         Begun::Session(session) => session,
         Begun::Refused(_, _) => panic!(rt; "no session"),
     }
 }
 
-// Whether the vertex _0, which is not there, has r over itself.
-fn question() -> Step
-    ensures { IsNamedStep result }
-{
-    let x = Name::helper(0);
-    Step::Holds {
-        right: Right::R,
-        x,
-        y: x,
-    }
-}
-
-// Whether the question was staged, and answered as it should be.
-fn asks(session: &mut Session) -> bool
+// Whether a is said to take r over c.
+fn takes(rt: &impl Abort, session: &mut Session) -> bool
     ensures { session.new.seat ≡ session.old.seat }
 {
-    let unknown = Reply::Refused(Refusal::Unknown(Name::helper(0)));
-    session.step(question()) == Ok(unknown)
+    session.step(take(rt, b'a', b'b', b'c', b"r")) == Ok(Reply::Done)
 }
 
-// A session that holds the question.
-fn asked(rt: &impl Abort, store: &Store, seat: Seat) -> Session
-    requires { IsOf store.now seat }
-    ensures { IsOf store.now result.seat }
+// Whether d is said to create n.
+fn creates(rt: &impl Abort, session: &mut Session) -> bool
+    ensures { session.new.seat ≡ session.old.seat }
 {
-    let mut session = begun(rt, store, seat);
-    let staged = asks(&mut session) || asks(&mut session);
-    assert!(rt; staged);
-    session
+    session.step(create(rt, name(rt, b'd'), b'n', b"g")) == Ok(Reply::Done)
+}
+
+// Whether z is said to be no vertex.
+fn asks(rt: &impl Abort, session: &mut Session) -> bool
+    ensures { session.new.seat ≡ session.old.seat }
+{
+    let unknown = Reply::Refused(Refusal::Unknown(name(rt, b'z')));
+    session.step(holds(rt, Right::R, b'a', b'z')) == Ok(unknown)
 }
 
 // A session that was refused memory goes on, and its record has the place that it would have had.
@@ -95,9 +112,124 @@ fn committed(rt: &impl Abort, store: &Store, session: Session, place: usize) -> 
 
 #[test]
 fn refused_commits(rt: HostRuntime) {
-    let (store, seat) = opened(&rt, rt.alloc());
-    let session = asked(&rt, &store, seat);
-    let seat = committed(&rt, &store, session, 0);
-    let session = begun(&rt, &store, seat);
+    let (store, one, _two) = opened(&rt, rt.alloc());
+    let mut session = begun(&rt, &store, one);
+    let staged = asks(&rt, &mut session) || asks(&rt, &mut session);
+    assert!(rt; staged);
+    let one = committed(&rt, &store, session, 0);
+    let session = begun(&rt, &store, one);
     assert!(rt; committed(&rt, &store, session, 1).taken() == 2);
+}
+
+// d creates n, at the first place.
+fn put_first(rt: &impl Abort, store: &Store, seat: Seat) -> Seat
+    requires { IsOf store.now seat }
+    ensures { IsOf store.now result }
+{
+    let mut session = begun(rt, store, seat);
+    let staged = creates(rt, &mut session) || creates(rt, &mut session);
+    assert!(rt; staged);
+    committed(rt, store, session, 0)
+}
+
+// The first seat's session takes r over c, and the second seat has put a record since.
+fn behind(rt: &impl Abort, store: &Store, one: Seat, two: Seat) -> Session
+    requires { IsOf store.now one × IsOf store.now two }
+    ensures { IsOf store.now result.seat }
+{
+    let mut session = begun(rt, store, one);
+    let staged = takes(rt, &mut session) || takes(rt, &mut session);
+    assert!(rt; staged);
+    assert!(rt; put_first(rt, store, two).taken() == 1);
+    session
+}
+
+// Its only step was done, and it is the first of its seat.
+fn is_first_take(rt: &impl Abort, record: &Record) -> bool {
+    let [only] = record.steps.as_slice() else {
+        return false;
+    };
+    let taken = only.step == take(rt, b'a', b'b', b'c', b"r");
+    record.seat == 1 && record.number == 0 && taken && only.reply == Reply::Done
+}
+
+#[test]
+fn refused_commit_behind_another(rt: HostRuntime) {
+    let (store, one, two) = opened(&rt, rt.alloc());
+    let session = behind(&rt, &store, one, two);
+    let one = committed(&rt, &store, session, 1);
+    let Some(record) = store.at(&one, 1) else {
+        panic!(rt; "no record");
+    };
+    assert!(rt; is_first_take(&rt, record));
+    assert!(rt;
+        one.graph()
+            .holds(name(&rt, b'a'), Right::R, name(&rt, b'c'))
+    );
+}
+
+// Whether the seat's graph is the replay of no record, or of the creation of n alone.
+fn is_replay(rt: &impl Abort, seat: &Seat) -> bool {
+    let taken = seat.taken();
+    let graph = seat.graph();
+    let (d, n) = (name(rt, b'd'), name(rt, b'n'));
+    let created = graph.len() == 5 && graph.holds(d, Right::G, n);
+    let untouched = !graph.holds(name(rt, b'a'), Right::R, name(rt, b'c'));
+    untouched && (taken == 0 && graph.len() == 4 || taken == 1 && created)
+}
+
+// A session that was refused memory is given up, and its seat begins again.
+#[test]
+fn abort_after_a_refusal(rt: HostRuntime) {
+    let (store, one, two) = opened(&rt, rt.alloc());
+    let session = behind(&rt, &store, one, two);
+    match store.commit(session) {
+        Committed::Again(session) => {
+            let seat = session.abort();
+            assert!(rt; is_replay(&rt, &seat));
+            assert!(rt; is_replay(&rt, &begun(&rt, &store, seat).abort()));
+        }
+        Committed::Done(_, receipt) => assert!(rt; receipt.place == 1),
+        Committed::Refused(_, _) => panic!(rt; "refused"),
+    }
+}
+
+// A seat that was refused memory has taken in what its graph shows.
+#[test]
+fn refused_begin(rt: HostRuntime) {
+    let (store, one, two) = opened(&rt, rt.alloc());
+    assert!(rt; put_first(&rt, &store, two).taken() == 1);
+    let session = match store.begin(one) {
+        Begun::Session(session) => session,
+        Begun::Refused(seat, _) => {
+            assert!(rt; is_replay(&rt, &seat));
+            begun(&rt, &store, seat)
+        }
+    };
+    let one = session.abort();
+    assert!(rt; one.taken() == 1 && is_replay(&rt, &one));
+}
+
+fn fronted(store: &Store, seat: &Seat) -> Result<Front<Record>, AllocError>
+    requires { IsOf store.now seat.now }
+    ensures cells { IfOk result (λ f. f.cells ≡ take (length f.seen) store.now.cells) }
+{
+    match store.front(seat) {
+        Ok(front) => Ok(front),
+        Err(AllocError) => store.front(seat),
+    }
+}
+
+#[test]
+fn refused_meeting(rt: HostRuntime) -> Result<(), Fail> {
+    let (store, mut one, two) = opened(&rt, rt.alloc());
+    let two = put_first(&rt, &store, two);
+    let front = fronted(&store, &two)?;
+    assert!(rt; front.len() == 1);
+    if let Err(fault) = store.meet(&mut one, &front) {
+        assert!(rt; fault == StoreMeetFault::Memory && is_replay(&rt, &one));
+        assert!(rt; store.meet(&mut one, &front).is_ok());
+    }
+    assert!(rt; one.taken() == 1 && is_replay(&rt, &one));
+    Ok(())
 }

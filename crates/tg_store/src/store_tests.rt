@@ -2,7 +2,7 @@ ghost use Rattle.std.specs.Prelude.{All, IfOk};
 ghost use Rattle.tg_store.specs.StepWords.{IsNamedStep};
 ghost use Rattle.tg_store.specs.Running.{IsOf};
 
-use crate::test_helpers::{create, graph, holds, name, share, take};
+use crate::test_helpers::{create, graph, holds, name, numbered, share, take, vertices};
 use crate::{Begun, CommitFault, Committed, Seat, Session, Store, StoreFault};
 use std::alloc::{AllocError, Global};
 use std::process::Abort;
@@ -226,6 +226,32 @@ fn full_journal(rt: HostRuntime) -> Result<(), Fail> {
     Ok(())
 }
 
+// There is room for one vertex more. The first seat's session takes it.
+fn crowded(rt: &impl Abort, store: &Store, one: Seat, two: Seat, x: Name, y: Name) -> Seat
+    requires { IsOf store.now one × IsOf store.now two }
+    ensures { IsOf store.now result }
+{
+    let first = staged(rt, store, one, create(rt, x, b'p', b"-"), Reply::Done);
+    let mut second = staged(rt, store, two, create(rt, y, b'q', b"-"), Reply::Done);
+    let full = Reply::Refused(Refusal::Full);
+    assert!(rt; second.step(create(rt, y, b's', b"-")) == Ok(full));
+    assert!(rt; done(rt, store, first, 0).graph().len() == 1024);
+    refused(rt, store, second, CommitFault::Crowded { place: 0 })
+}
+
+#[test]
+fn a_crowded_graph(rt: HostRuntime) -> Result<(), Fail> {
+    let g = vertices(rt.alloc(), 1023)?;
+    let (x, y) = (numbered(rt.alloc(), 0)?, numbered(rt.alloc(), 1)?);
+    let (store, one, two) = opened(&rt, rt.alloc(), &g, 8);
+    let two = crowded(&rt, &store, one, two, x, y);
+    assert!(rt; two.taken() == 0);
+    let two = begun(&rt, &store, two).abort();
+    assert!(rt; two.taken() == 1 && two.graph().knows(name(&rt, b'p')));
+    assert!(rt; two.graph().len() == 1024 && !two.graph().knows(name(&rt, b'q')));
+    Ok(())
+}
+
 // The seat meets what the other has seen.
 fn met(rt: &impl Abort, store: &Store, seat: &mut Seat, other: &Seat) -> Result<(), AllocError>
     requires { IsOf store.now seat.old × IsOf store.now other.now }
@@ -267,7 +293,7 @@ fn agreeing(store: &Store, one: Seat, two: Seat) -> (Seat, Seat, bool)
 }
 
 // Whether it agrees with itself alone.
-fn lonely(store: &Store, seat: Seat) -> (Seat, bool)
+pub(crate) fn lonely(store: &Store, seat: Seat) -> (Seat, bool)
     requires { IsOf store.now seat }
     ensures { IsOf store.now result.0 }
 {
@@ -318,7 +344,7 @@ fn limits_of_a_store(rt: HostRuntime) -> Result<(), Fail> {
 }
 
 // The letter and the number, below 100, in decimal.
-fn numbered(letter: u8, number: u8) -> Option<Name> {
+fn lettered(letter: u8, number: u8) -> Option<Name> {
     let (tens, ones) = (b'0' + number / 10 % 10, b'0' + number % 10);
     let text = if number < 10 {
         Name::parse(&[letter, ones])
@@ -381,7 +407,7 @@ fn fill(
     let mut seat = seat;
     let mut places = Vec::new(alloc);
     for k in 0..50 {
-        let Some(n) = numbered(letter, k) else {
+        let Some(n) = lettered(letter, k) else {
             break;
         };
         let (back, place) = committed(store, seat, creation(x, n));

@@ -43,6 +43,21 @@ pub fn graph(
     Ok(graph)
 }
 
+/// The name v0, v1 and so on.
+pub fn numbered(alloc: Global, number: u32) -> Result<Name, Fail> {
+    let text = format!(in alloc; "v{number}")?;
+    Ok(Name::parse(text.as_bytes())?)
+}
+
+/// The vertices v0, v1 and so on, so many, without an edge.
+pub fn vertices(alloc: Global, count: u32) -> Result<Graph, Fail> {
+    let mut graph = Graph::new(alloc);
+    for number in 0..count {
+        graph.add_vertex(numbered(alloc, number)?)?;
+    }
+    Ok(graph)
+}
+
 /// A hall over the vertices a, b and c, of which a has t over b, and b has r over c.
 pub fn hall_of_three(
     rt: &impl Abort,

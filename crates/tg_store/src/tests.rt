@@ -2,8 +2,8 @@
 use crate::events::{Event, HallFault, HallReply, StoreFault};
 use crate::halls::Hall;
 use crate::test_helpers::{
-    begins, changed, commits, create, graph, hall_of_three, happens, holds, name, refused, remove,
-    says, says_refused, says_unknown, set, share, staged, take, told,
+    begins, changed, commits, create, graph, hall_of_three, happens, holds, name, numbered,
+    refused, remove, says, says_refused, says_unknown, set, share, staged, take, told, vertices,
 };
 use std::alloc::Global;
 use std::process::Abort;
@@ -90,21 +90,6 @@ fn one_cell(rt: HostRuntime) -> Result<(), Fail> {
     begins(&rt, &mut hall, 1);
     told(&rt, &mut hall, 1, Act::Abort, HallReply::Done);
     Ok(())
-}
-
-// The name v0, v1 and so on.
-fn numbered(alloc: Global, number: u32) -> Result<Name, Fail> {
-    let text = format!(in alloc; "v{number}")?;
-    Ok(Name::parse(text.as_bytes())?)
-}
-
-// So many vertices without an edge.
-fn vertices(alloc: Global, count: u32) -> Result<Graph, Fail> {
-    let mut graph = Graph::new(alloc);
-    for number in 0..count {
-        graph.add_vertex(numbered(alloc, number)?)?;
-    }
-    Ok(graph)
 }
 
 #[test]
