@@ -19,6 +19,7 @@ SHOP = examples/web_shop
 KERNEL = examples/microkernel
 PICTURES = examples/pictures
 OPEN_KERNEL = echo 'edge nic_driver log_server g' | cat $(KERNEL).graph -
+LESS_OF_CLUSTER = $(foreach kind,groups secrets pods services events,--without '$(kind) *')
 
 .PHONY: build demo examples pictures test refusals man bench races hostile fuzz
 
@@ -74,7 +75,7 @@ $(call $(1),web_shop.runner,cat $(SHOP).trusted.graph,--derive r runner payment_
 $(call $(1),web_shop.share,cat $(SHOP).trusted.graph,--share r payment_key)
 $(call $(1),microkernel,cat $(KERNEL).graph)
 $(call $(1),microkernel.derive,$(OPEN_KERNEL),--derive r nic_driver keys)
-$(call $(1),cluster,python3 bench/cluster.py 400 | tools/from_rbac)
+$(call $(1),cluster,python3 bench/cluster.py 840 | tools/from_rbac $(LESS_OF_CLUSTER))
 endef
 
 draw = $(2) | tools/picture /dev/stdin $(3) --officer $(OFFICER)
@@ -99,7 +100,7 @@ bench: build
 	@python3 bench/bench.py $(OFFICER)
 	@echo "A cluster of 1,000 objects, from its listing to its islands:"
 	@python3 bench/cluster.py 1000 > crates/officer/out/cluster.json
-	@time -p sh -c 'tools/from_rbac crates/officer/out/cluster.json | $(OFFICER) islands /dev/stdin > crates/officer/out/islands'
+	@bash -c 'time -p tools/from_rbac crates/officer/out/cluster.json | $(OFFICER) islands /dev/stdin > /dev/null'
 
 races: build
 	@python3 checks/races.py $(OFFICER)

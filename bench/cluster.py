@@ -1,8 +1,8 @@
 #!/usr/bin/env python3
-"""Prints the listing of a made-up Kubernetes cluster, as tools/from_rbac reads it: cluster.py OBJECTS
+"""Prints the listing of a made-up Kubernetes cluster, as tools/from_rbac reads it.
 
-A quarter each are service accounts, secrets, roles and bindings, in 25 namespaces. A few groups may do
-everything, and every account may look at what runs.
+cluster.py OBJECTS. A quarter each are service accounts, secrets, roles and bindings, in 25
+namespaces. A few groups may do everything, and every account may look at what runs.
 """
 import json
 import random
