@@ -87,8 +87,9 @@ pictures: build
 	$(call each_picture,write_picture)
 	@echo "The pictures are in $(PICTURES)."
 
+# (four crates or sets of wrong bodies side by side: some 12 GB; by itself rt ci counts on twice that)
 test:
-	@rt ci
+	@RT_JOBS=$${RT_JOBS:-4} rt ci
 
 refusals:
 	@python3 checks/refusals.py

@@ -8,7 +8,7 @@ use crate::draft::{Draft, Ready};
 use crate::memory_tests::{copied, one, rule_at};
 use crate::protection::Graph;
 use crate::rules::{Rule, RuleFault};
-use crate::test_values::same;
+use crate::test_values::{row_lengths, same};
 use std::alloc::AllocError;
 use std::process::Abort;
 use std::test::Fail;
@@ -36,36 +36,53 @@ fn drafts(rt: &impl Abort, draft: &mut Draft, base: &Graph, rule: Rule) -> Resul
     Ok(())
 }
 
+fn merge(rt: &impl Abort, base: &mut Graph, draft: Draft)
+    requires { Fits base.old draft }
+{
+    assert!(rt; base.merge(draft).is_ok());
+}
+
 // The graph that the draft stands for, by way of `Ready`.
+fn ready(rt: &impl Abort, base: Graph, draft: Draft, before: &Graph) -> Graph
+    requires { Fits base draft }
+{
+    match Ready::new(base, draft) {
+        Ok(ready) => ready.merge(),
+        Err((mut base, draft)) => {
+            assert!(rt; same(&base, before));
+            merge(rt, &mut base, draft);
+            base
+        }
+    }
+}
+
+// It is that which `whole` gives.
 fn merged(rt: &impl Abort, base: Graph, draft: Draft) -> Result<Graph, AllocError>
     requires { Fits base draft }
 {
     let wanted = whole(&draft, &base)?;
     let before = copied(rt, &base)?;
-    match Ready::new(base, draft) {
-        Ok(ready) => {
-            let merged = ready.merge();
-            assert!(rt; same(&merged, &wanted));
-            Ok(merged)
-        }
-        Err((mut base, draft)) => {
-            assert!(rt; same(&base, &before));
-            assert!(rt; base.merge(draft).is_ok() && same(&base, &wanted));
-            Ok(base)
-        }
-    }
+    let merged = ready(rt, base, draft, &before);
+    assert!(rt; same(&merged, &wanted));
+    Ok(merged)
 }
 
 // The same, in place.
+fn merge_again(rt: &impl Abort, base: &mut Graph, draft: Draft, before: &Graph)
+    requires { Fits base.old draft }
+{
+    if let Err(draft) = base.merge(draft) {
+        assert!(rt; same(base, before));
+        merge(rt, base, draft);
+    }
+}
+
 fn merges(rt: &impl Abort, base: &mut Graph, draft: Draft) -> Result<(), AllocError>
     requires { Fits base.old draft }
 {
     let wanted = whole(&draft, base)?;
     let before = copied(rt, base)?;
-    if let Err(draft) = base.merge(draft) {
-        assert!(rt; same(base, &before));
-        assert!(rt; base.merge(draft).is_ok());
-    }
+    merge_again(rt, base, draft, &before);
     assert!(rt; same(base, &wanted));
     Ok(())
 }
@@ -78,7 +95,7 @@ fn refused_on_the_way_to_ready(rt: HostRuntime) -> Result<(), Fail> {
     drafts(&rt, &mut draft, &base, rule_at(0))?;
     drafts(&rt, &mut draft, &base, rule_at(1))?;
     let merged = merged(&rt, base, draft)?;
-    assert!(rt; merged.len() == 2 && merged.row_len(0) == 2 && merged.row_len(1) == 1);
+    row_lengths(&rt, &merged, &[2, 1]);
     Ok(())
 }
 
@@ -89,7 +106,7 @@ fn refused_in_place(rt: HostRuntime) -> Result<(), Fail> {
     let mut draft = Draft::new(rt.alloc());
     drafts(&rt, &mut draft, &base, rule_at(0))?;
     merges(&rt, &mut base, draft)?;
-    assert!(rt; base.len() == 2 && base.row_len(0) == 2 && base.row_len(1) == 0);
+    row_lengths(&rt, &base, &[2, 0]);
     Ok(())
 }
 

@@ -7,7 +7,7 @@ use crate::names::Name;
 use crate::protection::Graph;
 use crate::right_sets::{Right, Rights};
 use crate::rules::{Refusal, Rule, RuleFault};
-use crate::test_values::{create, name, remove, take, three};
+use crate::test_values::{create, name, reads, remove, row_lengths, stands_at, take, three};
 use std::alloc::Global;
 use std::process::Abort;
 use std::test::Fail;
@@ -120,9 +120,19 @@ fn a_draft_merged(rt: HostRuntime) -> Result<(), Fail> {
     let mut draft = Draft::new(rt.alloc());
     drafts(&rt, &mut draft, &base, take_r(&rt));
     assert!(rt; base.merge(draft).is_ok());
-    assert!(rt; base.holds(name(&rt, b"a"), Right::R, name(&rt, b"c")));
-    assert!(rt; !copy.holds(name(&rt, b"a"), Right::R, name(&rt, b"c")));
+    assert!(rt; reads(&rt, &base, b"a", b"c"));
+    assert!(rt; !reads(&rt, &copy, b"a", b"c"));
     Ok(())
+}
+
+// What base and draft stand for together.
+fn merged(rt: &impl Abort, base: Graph, draft: Draft) -> Graph
+    requires { Fits base draft }
+{
+    match Ready::new(base, draft) {
+        Ok(ready) => ready.merge(),
+        Err(_) => panic!(rt; "no room"),
+    }
 }
 
 #[test]
@@ -131,13 +141,9 @@ fn a_draft_made_ready(rt: HostRuntime) -> Result<(), Fail> {
     let mut draft = Draft::new(rt.alloc());
     drafts(&rt, &mut draft, &base, remove_r(&rt));
     drafts(&rt, &mut draft, &base, create_r(&rt));
-    match Ready::new(base, draft) {
-        Ok(ready) => {
-            let merged = ready.merge();
-            assert!(rt; merged.row_len(1) == 0 && merged.position(name(&rt, b"n")) == Some(3));
-        }
-        Err(_) => assert!(rt; false),
-    }
+    let merged = merged(&rt, base, draft);
+    row_lengths(&rt, &merged, &[2, 0, 0, 0]);
+    stands_at(&rt, &merged, b"n", 3);
     Ok(())
 }
 
@@ -147,17 +153,21 @@ fn applies(rt: &impl Abort, g: &mut Graph, rule: Rule)
     assert!(rt; g.apply(&rule) == Ok(()));
 }
 
+// Whether a has r over c, and whether b has.
+fn who_reads(rt: &impl Abort, g: &Graph) -> (bool, bool) {
+    (reads(rt, g, b"a", b"c"), reads(rt, g, b"b", b"c"))
+}
+
 #[test]
 fn a_change_stays_in_its_copy(rt: HostRuntime) -> Result<(), Fail> {
     let base = three(&rt, rt.alloc())?;
     let mut shared = base.copy()?;
     let mut unshared = base.copy_unshared()?;
-    let (a, b, c) = (name(&rt, b"a"), name(&rt, b"b"), name(&rt, b"c"));
     applies(&rt, &mut shared, take_r(&rt));
     applies(&rt, &mut unshared, remove_r(&rt));
-    assert!(rt; !base.holds(a, Right::R, c) && base.holds(b, Right::R, c));
-    assert!(rt; shared.holds(a, Right::R, c) && shared.holds(b, Right::R, c));
-    assert!(rt; !unshared.holds(a, Right::R, c) && !unshared.holds(b, Right::R, c));
+    assert!(rt; who_reads(&rt, &base) == (false, true));
+    assert!(rt; who_reads(&rt, &shared) == (true, true));
+    assert!(rt; who_reads(&rt, &unshared) == (false, false));
     Ok(())
 }
 
@@ -166,9 +176,9 @@ fn a_change_leaves_the_copies(rt: HostRuntime) -> Result<(), Fail> {
     let mut base = three(&rt, rt.alloc())?;
     let shared = base.copy()?;
     let unshared = base.copy_unshared()?;
-    let (b, c) = (name(&rt, b"b"), name(&rt, b"c"));
     applies(&rt, &mut base, remove_r(&rt));
-    assert!(rt; !base.holds(b, Right::R, c));
-    assert!(rt; shared.holds(b, Right::R, c) && unshared.holds(b, Right::R, c));
+    assert!(rt; !reads(&rt, &base, b"b", b"c"));
+    assert!(rt; reads(&rt, &shared, b"b", b"c"));
+    assert!(rt; reads(&rt, &unshared, b"b", b"c"));
     Ok(())
 }

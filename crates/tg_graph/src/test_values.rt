@@ -5,7 +5,7 @@ ghost use Rattle.tg_graph.specs.Rules.{rights_of};
 
 use crate::names::Name;
 use crate::protection::Graph;
-use crate::right_sets::Rights;
+use crate::right_sets::{Right, Rights};
 use crate::rules::Rule;
 use bitflags::Flags;
 use std::alloc::Global;
@@ -68,6 +68,38 @@ pub fn remove(rt: &impl Abort, x: &[u8], y: &[u8], letters: &[u8]) -> Rule
         y: name(rt, y),
         rights: set(rt, letters),
     }
+}
+
+// The calls that follow tell nothing of the graph, so the check of a test that makes many of them
+// stays short.
+
+/// Adds a vertex.
+pub fn with_vertex(rt: &impl Abort, g: &mut Graph, n: &[u8]) {
+    assert!(rt; g.add_vertex(name(rt, n)) == Ok(()));
+}
+
+/// Adds an edge.
+pub fn with_edge(rt: &impl Abort, g: &mut Graph, x: &[u8], y: &[u8], letters: &[u8]) {
+    assert!(rt; g.add_edge(name(rt, x), name(rt, y), set(rt, letters)) == Ok(()));
+}
+
+/// Whether x has r over y.
+pub fn reads(rt: &impl Abort, g: &Graph, x: &[u8], y: &[u8]) -> bool {
+    g.holds(name(rt, x), Right::R, name(rt, y))
+}
+
+/// The graph has as many vertices as there are lengths, and their rows have these.
+pub fn row_lengths(rt: &impl Abort, g: &Graph, lengths: &[usize]) {
+    assert!(rt; g.len() == lengths.len());
+    for (position, length) in lengths.iter().enumerate() {
+        assert!(rt; g.row_len(position) == *length);
+    }
+}
+
+/// The vertex stands at the position.
+pub fn stands_at(rt: &impl Abort, g: &Graph, n: &[u8], position: usize) {
+    assert!(rt; g.position(name(rt, n)) == Some(position));
+    assert!(rt; g.name_at(position) == Some(name(rt, n)));
 }
 
 /// The vertices a and b, and the edge between them if its label is not empty.

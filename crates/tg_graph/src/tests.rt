@@ -5,7 +5,10 @@ use crate::names::{Name, NameFault};
 use crate::protection::{EdgeFault, Graph, VertexFault};
 use crate::right_sets::{Right, Rights};
 use crate::rules::{Refusal, Rule, RuleFault};
-use crate::test_values::{create, grant, name, remove, same, set, take, three, two};
+use crate::test_values::{
+    create, grant, name, reads, remove, row_lengths, same, set, stands_at, take, three, two,
+    with_edge, with_vertex,
+};
 use bitflags::Flags;
 use std::process::Abort;
 use std::test::Fail;
@@ -95,21 +98,37 @@ fn sets_of_rights(rt: HostRuntime) {
     assert!(rt; set(&rt, b"-").is_empty() && !one.is_empty());
 }
 
-#[test]
-fn graph_calls(rt: HostRuntime) -> Result<(), Fail> {
-    let mut g = Graph::new(rt.alloc());
-    let (a, z) = (name(&rt, b"a"), name(&rt, b"z"));
-    let r = set(&rt, b"r");
-    g.add_vertex(a)?;
-    assert!(rt; g.add_vertex(a) == Err(VertexFault::Taken));
-    assert!(rt; g.add_edge(a, z, r) == Err(EdgeFault::Unknown(z)));
-    assert!(rt; g.add_edge(a, a, set(&rt, b"-")) == Err(EdgeFault::Empty));
-    g.add_edge(a, a, r)?;
-    assert!(rt; g.add_edge(a, a, set(&rt, b"-")) == Err(EdgeFault::EdgeThere));
-    assert!(rt; g.label(a, a) == Some(r));
+fn refuses_edge(
+    rt: &impl Abort,
+    g: &mut Graph,
+    x: &[u8],
+    y: &[u8],
+    letters: &[u8],
+    fault: EdgeFault,
+) {
+    assert!(rt; g.add_edge(name(rt, x), name(rt, y), set(rt, letters)) == Err(fault));
+}
+
+// a has r over itself, and z is no vertex.
+fn only_reads_itself(rt: &impl Abort, g: &Graph) {
+    let (a, z) = (name(rt, b"a"), name(rt, b"z"));
+    assert!(rt; g.label(a, a) == Some(set(rt, b"r")));
     assert!(rt; g.label(a, z).is_none());
-    assert!(rt; g.knows(a) && !g.knows(z));
-    Ok(())
+    assert!(rt; g.knows(a));
+    assert!(rt; !g.knows(z));
+}
+
+#[test]
+fn graph_calls(rt: HostRuntime) {
+    let mut g = Graph::new(rt.alloc());
+    with_vertex(&rt, &mut g, b"a");
+    assert!(rt; g.add_vertex(name(&rt, b"a")) == Err(VertexFault::Taken));
+    let unknown = EdgeFault::Unknown(name(&rt, b"z"));
+    refuses_edge(&rt, &mut g, b"a", b"z", b"r", unknown);
+    refuses_edge(&rt, &mut g, b"a", b"a", b"-", EdgeFault::Empty);
+    with_edge(&rt, &mut g, b"a", b"a", b"r");
+    refuses_edge(&rt, &mut g, b"a", b"a", b"-", EdgeFault::EdgeThere);
+    only_reads_itself(&rt, &g);
 }
 
 #[test]
@@ -122,21 +141,30 @@ fn edges_from_no_vertex(rt: HostRuntime) -> Result<(), Fail> {
     Ok(())
 }
 
+fn has_edge_at(
+    rt: &impl Abort,
+    g: &Graph,
+    position: usize,
+    place: usize,
+    y: &[u8],
+    letters: &[u8],
+) {
+    assert!(rt; g.row_at(position, place) == Some((name(rt, y), set(rt, letters))));
+}
+
 #[test]
-fn positions_and_rows(rt: HostRuntime) -> Result<(), Fail> {
+fn positions_and_rows(rt: HostRuntime) {
     let mut g = Graph::new(rt.alloc());
-    let (a, b) = (name(&rt, b"a"), name(&rt, b"b"));
-    let (r, w) = (set(&rt, b"r"), set(&rt, b"w"));
-    g.add_vertex(b)?;
-    g.add_vertex(a)?;
-    g.add_edge(b, b, r)?;
-    g.add_edge(b, a, w)?;
-    assert!(rt; g.len() == 2 && g.position(a) == Some(1) && g.name_at(0) == Some(b));
-    assert!(rt; g.row_len(0) == 2 && g.row_len(1) == 0);
-    assert!(rt; g.row_at(0, 0) == Some((a, w)));
-    assert!(rt; g.row_at(0, 1) == Some((b, r)));
+    with_vertex(&rt, &mut g, b"b");
+    with_vertex(&rt, &mut g, b"a");
+    with_edge(&rt, &mut g, b"b", b"b", b"r");
+    with_edge(&rt, &mut g, b"b", b"a", b"w");
+    stands_at(&rt, &g, b"b", 0);
+    stands_at(&rt, &g, b"a", 1);
+    row_lengths(&rt, &g, &[2, 0]);
+    has_edge_at(&rt, &g, 0, 0, b"a", b"w");
+    has_edge_at(&rt, &g, 0, 1, b"b", b"r");
     assert!(rt; g.row_at(0, 2).is_none());
-    Ok(())
 }
 
 #[test]
@@ -145,8 +173,8 @@ fn a_copy_apart(rt: HostRuntime) -> Result<(), Fail> {
     let mut copy = g.copy()?;
     assert!(rt; same(&g, &copy));
     accepts(&rt, &mut copy, take(&rt, b"a", b"b", b"c", b"r"));
-    let (a, c) = (name(&rt, b"a"), name(&rt, b"c"));
-    assert!(rt; copy.holds(a, Right::R, c) && !g.holds(a, Right::R, c));
+    assert!(rt; reads(&rt, &copy, b"a", b"c"));
+    assert!(rt; !reads(&rt, &g, b"a", b"c"));
     Ok(())
 }
 

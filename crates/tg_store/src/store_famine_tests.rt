@@ -32,9 +32,12 @@ fn begun(rt: &impl Abort, store: &Store, seat: Seat) -> Session
 fn read(rt: &impl Abort, store: &Store, seat: &Seat, taken: usize)
     requires { IsOf store.now seat.now }
 {
-    assert!(rt; seat.number() == 1 && seat.taken() == taken && seat.graph().len() == 3);
+    assert!(rt; seat.number() == 1);
+    assert!(rt; seat.taken() == taken);
+    assert!(rt; seat.graph().len() == 3);
     assert!(rt; seat.graph().holds(name(rt, b'a'), Right::T, name(rt, b'b')));
-    assert!(rt; store.at(seat, 0).is_some() == (taken == 1) && store.at(seat, 1).is_none());
+    assert!(rt; store.at(seat, 0).is_some() == (taken == 1));
+    assert!(rt; store.at(seat, 1).is_none());
 }
 
 #[test]

@@ -5,7 +5,8 @@ ghost use Rattle.tg_store.specs.Running.{IsOf, first_seat};
 
 use crate::test_helpers::{create, holds, name, set, take};
 use crate::{
-    BeginFault, Begun, Committed, Record, Seat, Session, Store, StoreFault, StoreMeetFault,
+    Answered, BeginFault, Begun, Committed, Record, Seat, Session, Store, StoreFault,
+    StoreMeetFault,
 };
 use std::alloc::{AllocError, Global};
 use std::process::Abort;
@@ -144,13 +145,19 @@ fn behind(rt: &impl Abort, store: &Store, one: Seat, two: Seat) -> Session
     session
 }
 
+// Whether a took r over c.
+fn is_done_take(rt: &impl Abort, answered: &Answered) -> bool {
+    answered.reply == Reply::Done && answered.step == take(rt, b'a', b'b', b'c', b"r")
+}
+
 // Its only step was done, and it is the first of its seat.
-fn is_first_take(rt: &impl Abort, record: &Record) -> bool {
-    let [only] = record.steps.as_slice() else {
-        return false;
-    };
-    let taken = only.step == take(rt, b'a', b'b', b'c', b"r");
-    record.seat == 1 && record.number == 0 && taken && only.reply == Reply::Done
+fn is_first_take(rt: &impl Abort, record: &Record) {
+    assert!(rt; record.seat == 1);
+    assert!(rt; record.number == 0);
+    match record.steps.as_slice() {
+        [only] => assert!(rt; is_done_take(rt, only)),
+        _ => panic!(rt; "not one step"),
+    }
 }
 
 #[test]
@@ -161,21 +168,33 @@ fn refused_commit_behind_another(rt: HostRuntime) {
     let Some(record) = store.at(&one, 1) else {
         panic!(rt; "no record");
     };
-    assert!(rt; is_first_take(&rt, record));
+    is_first_take(&rt, record);
     assert!(rt;
         one.graph()
             .holds(name(&rt, b'a'), Right::R, name(&rt, b'c'))
     );
 }
 
+// How many vertices there are, whether d has g over n, and whether a has r over c.
+fn shown(rt: &impl Abort, graph: &Graph) -> (usize, bool, bool) {
+    let created = graph.holds(name(rt, b'd'), Right::G, name(rt, b'n'));
+    let taken = graph.holds(name(rt, b'a'), Right::R, name(rt, b'c'));
+    (graph.len(), created, taken)
+}
+
 // Whether the seat's graph is the replay of no record, or of the creation of n alone.
 fn is_replay(rt: &impl Abort, seat: &Seat) -> bool {
-    let taken = seat.taken();
-    let graph = seat.graph();
-    let (d, n) = (name(rt, b'd'), name(rt, b'n'));
-    let created = graph.len() == 5 && graph.holds(d, Right::G, n);
-    let untouched = !graph.holds(name(rt, b'a'), Right::R, name(rt, b'c'));
-    untouched && (taken == 0 && graph.len() == 4 || taken == 1 && created)
+    match seat.taken() {
+        0 => shown(rt, seat.graph()) == (4, false, false),
+        1 => shown(rt, seat.graph()) == (5, true, false),
+        _ => false,
+    }
+}
+
+// The seat's graph is the replay of the creation of n.
+fn rests_on_the_creation(rt: &impl Abort, seat: &Seat) {
+    assert!(rt; seat.taken() == 1);
+    assert!(rt; is_replay(rt, seat));
 }
 
 // A session that was refused memory is given up, and its seat begins again.
@@ -207,7 +226,7 @@ fn refused_begin(rt: HostRuntime) {
         }
     };
     let one = session.abort();
-    assert!(rt; one.taken() == 1 && is_replay(&rt, &one));
+    rests_on_the_creation(&rt, &one);
 }
 
 fn fronted(store: &Store, seat: &Seat) -> Result<Front<Record>, AllocError>
@@ -227,9 +246,10 @@ fn refused_meeting(rt: HostRuntime) -> Result<(), Fail> {
     let front = fronted(&store, &two)?;
     assert!(rt; front.len() == 1);
     if let Err(fault) = store.meet(&mut one, &front) {
-        assert!(rt; fault == StoreMeetFault::Memory && is_replay(&rt, &one));
+        assert!(rt; fault == StoreMeetFault::Memory);
+        assert!(rt; is_replay(&rt, &one));
         assert!(rt; store.meet(&mut one, &front).is_ok());
     }
-    assert!(rt; one.taken() == 1 && is_replay(&rt, &one));
+    rests_on_the_creation(&rt, &one);
     Ok(())
 }

@@ -58,6 +58,18 @@ pub fn vertices(alloc: Global, count: u32) -> Result<Graph, Fail> {
     Ok(graph)
 }
 
+/// A hall over the graph of these vertices and edges, with eight cells.
+pub fn hall_over(
+    rt: &impl Abort,
+    alloc: Global,
+    vertices: &[u8],
+    edges: &[[u8; 3]],
+    seats: u32,
+) -> Result<Hall, Fail> {
+    let graph = graph(rt, alloc, vertices, edges)?;
+    Ok(Hall::new(alloc, &graph, 8, seats)?)
+}
+
 /// A hall over the vertices a, b and c, of which a has t over b, and b has r over c.
 pub fn hall_of_three(
     rt: &impl Abort,

@@ -2,7 +2,7 @@
 use crate::events::{Event, HallFault, HallReply, StoreFault};
 use crate::halls::Hall;
 use crate::test_helpers::{
-    begins, changed, commits, create, graph, hall_of_three, happens, holds, name, numbered,
+    begins, changed, commits, create, hall_of_three, hall_over, happens, holds, name, numbered,
     refused, remove, says, says_refused, says_unknown, set, share, staged, take, told, vertices,
 };
 use std::alloc::Global;
@@ -14,8 +14,11 @@ fn fault_of(alloc: Global, graph: &Graph, cells: usize, seats: u32) -> Option<St
     Hall::new(alloc, graph, cells, seats).err()
 }
 
-fn last_of(hall: &Hall) -> Result<Graph, Fail> {
-    Ok(hall.last()?)
+// The label of the edge from x to y in the replay of all records.
+fn ends_with(rt: &impl Abort, hall: &Hall, x: u8, y: u8, letters: &[u8]) -> Result<(), Fail> {
+    let last = hall.last()?;
+    assert!(rt; last.label(name(rt, x), name(rt, y)) == Some(set(rt, letters)));
+    Ok(())
 }
 
 // Both seats begin.
@@ -27,8 +30,7 @@ fn begin_two(rt: &impl Abort, hall: &mut Hall) {
 #[test]
 fn a_row_that_was_read(rt: HostRuntime) -> Result<(), Fail> {
     let edges = [*b"abt", *b"acw", *b"bat", *b"bcr"];
-    let g = graph(&rt, rt.alloc(), b"abc", &edges)?;
-    let mut hall = Hall::new(rt.alloc(), &g, 8, 2)?;
+    let mut hall = hall_over(&rt, rt.alloc(), b"abc", &edges, 2)?;
     begin_two(&rt, &mut hall);
     let first = take(&rt, b'a', b'b', b'c', b"r");
     let second = take(&rt, b'b', b'a', b'c', b"w");
@@ -36,45 +38,37 @@ fn a_row_that_was_read(rt: HostRuntime) -> Result<(), Fail> {
     staged(&rt, &mut hall, 2, second, says(Reply::Done));
     commits(&rt, &mut hall, 1, 0);
     told(&rt, &mut hall, 2, Act::Commit, changed(&rt, 0, b'a'));
-    let last = last_of(&hall)?;
-    let (a, b, c) = (name(&rt, b'a'), name(&rt, b'b'), name(&rt, b'c'));
-    assert!(rt; last.label(a, c) == Some(set(&rt, b"rw")));
-    assert!(rt; last.label(b, c) == Some(set(&rt, b"r")));
+    ends_with(&rt, &hall, b'a', b'c', b"rw")?;
+    ends_with(&rt, &hall, b'b', b'c', b"r")?;
     Ok(())
 }
 
 #[test]
 fn a_name_that_was_no_vertex(rt: HostRuntime) -> Result<(), Fail> {
-    let g = graph(&rt, rt.alloc(), b"abc", &[*b"abt"])?;
-    let mut hall = Hall::new(rt.alloc(), &g, 8, 2)?;
+    let mut hall = hall_over(&rt, rt.alloc(), b"abc", &[*b"abt"], 2)?;
     begin_two(&rt, &mut hall);
     let first = take(&rt, b'a', b'b', b'n', b"r");
-    let c = name(&rt, b'c');
-    let second = create(&rt, c, b'n', b"r");
+    let second = create(&rt, name(&rt, b'c'), b'n', b"r");
     staged(&rt, &mut hall, 1, first, says_unknown(&rt, b'n'));
     staged(&rt, &mut hall, 2, second, says(Reply::Done));
     commits(&rt, &mut hall, 2, 0);
     told(&rt, &mut hall, 1, Act::Commit, changed(&rt, 0, b'n'));
-    let last = last_of(&hall)?;
-    assert!(rt; last.label(c, name(&rt, b'n')) == Some(set(&rt, b"r")));
+    ends_with(&rt, &hall, b'c', b'n', b"r")?;
     Ok(())
 }
 
 #[test]
 fn two_sessions_apart(rt: HostRuntime) -> Result<(), Fail> {
-    let g = graph(&rt, rt.alloc(), b"abcd", &[*b"abt", *b"bcr"])?;
-    let mut hall = Hall::new(rt.alloc(), &g, 8, 2)?;
+    let mut hall = hall_over(&rt, rt.alloc(), b"abcd", &[*b"abt", *b"bcr"], 2)?;
     begin_two(&rt, &mut hall);
     let first = take(&rt, b'a', b'b', b'c', b"r");
-    let d = name(&rt, b'd');
-    let second = create(&rt, d, b'n', b"g");
+    let second = create(&rt, name(&rt, b'd'), b'n', b"g");
     staged(&rt, &mut hall, 1, first, says(Reply::Done));
     staged(&rt, &mut hall, 2, second, says(Reply::Done));
     commits(&rt, &mut hall, 2, 0);
     commits(&rt, &mut hall, 1, 1);
-    let last = last_of(&hall)?;
-    assert!(rt; last.label(name(&rt, b'a'), name(&rt, b'c')) == Some(set(&rt, b"r")));
-    assert!(rt; last.label(d, name(&rt, b'n')) == Some(set(&rt, b"g")));
+    ends_with(&rt, &hall, b'a', b'c', b"r")?;
+    ends_with(&rt, &hall, b'd', b'n', b"g")?;
     Ok(())
 }
 
@@ -92,12 +86,27 @@ fn one_cell(rt: HostRuntime) -> Result<(), Fail> {
     Ok(())
 }
 
+// A hall of two seats, both of which have begun, over so many vertices without an edge.
+fn begun_over(rt: &impl Abort, alloc: Global, count: u32) -> Result<Hall, Fail> {
+    let g = vertices(alloc, count)?;
+    let mut hall = Hall::new(alloc, &g, 8, 2)?;
+    begin_two(rt, &mut hall);
+    Ok(hall)
+}
+
+// The replay of all records has room for no vertex more, and of p and q it has p.
+fn is_full_with_p(rt: &impl Abort, hall: &Hall) -> Result<(), Fail> {
+    let last = hall.last()?;
+    assert!(rt; last.len() == 1024);
+    assert!(rt; last.knows(name(rt, b'p')));
+    assert!(rt; !last.knows(name(rt, b'q')));
+    Ok(())
+}
+
 #[test]
 fn no_room_for_two(rt: HostRuntime) -> Result<(), Fail> {
-    let g = vertices(rt.alloc(), 1023)?;
     let (x, y) = (numbered(rt.alloc(), 0)?, numbered(rt.alloc(), 1)?);
-    let mut hall = Hall::new(rt.alloc(), &g, 8, 2)?;
-    begin_two(&rt, &mut hall);
+    let mut hall = begun_over(&rt, rt.alloc(), 1023)?;
     let (p, q) = (create(&rt, x, b'p', b"-"), create(&rt, y, b'q', b"-"));
     let s = create(&rt, y, b's', b"-");
     staged(&rt, &mut hall, 1, p, says(Reply::Done));
@@ -106,17 +115,13 @@ fn no_room_for_two(rt: HostRuntime) -> Result<(), Fail> {
     commits(&rt, &mut hall, 1, 0);
     let crowded = refused(HallFault::Crowded { place: 0 });
     told(&rt, &mut hall, 2, Act::Commit, crowded);
-    let last = last_of(&hall)?;
-    assert!(rt; last.len() == 1024 && last.knows(name(&rt, b'p')) && !last.knows(name(&rt, b'q')));
-    Ok(())
+    is_full_with_p(&rt, &hall)
 }
 
 #[test]
 fn a_record_that_would_crowd(rt: HostRuntime) -> Result<(), Fail> {
-    let g = vertices(rt.alloc(), 1023)?;
     let (x, y) = (numbered(rt.alloc(), 0)?, numbered(rt.alloc(), 1)?);
-    let mut hall = Hall::new(rt.alloc(), &g, 8, 2)?;
-    begin_two(&rt, &mut hall);
+    let mut hall = begun_over(&rt, rt.alloc(), 1023)?;
     let (p, q) = (create(&rt, x, b'p', b"-"), create(&rt, y, b'q', b"-"));
     staged(&rt, &mut hall, 1, p, says(Reply::Done));
     staged(&rt, &mut hall, 2, q, says(Reply::Done));
@@ -137,10 +142,18 @@ fn a_commit_once(rt: HostRuntime) -> Result<(), Fail> {
     Ok(())
 }
 
+// On the graph of the seat a has r over c, and n is no vertex.
+fn rests_on_the_first(rt: &impl Abort, hall: &Hall, seat: u32) {
+    let Some(seen) = hall.graph(seat) else {
+        panic!(rt; "no seat");
+    };
+    assert!(rt; seen.holds(name(rt, b'a'), Right::R, name(rt, b'c')));
+    assert!(rt; !seen.knows(name(rt, b'n')));
+}
+
 #[test]
 fn three_seats(rt: HostRuntime) -> Result<(), Fail> {
-    let g = graph(&rt, rt.alloc(), b"abcd", &[*b"abt", *b"bcr"])?;
-    let mut hall = Hall::new(rt.alloc(), &g, 8, 3)?;
+    let mut hall = hall_over(&rt, rt.alloc(), b"abcd", &[*b"abt", *b"bcr"], 3)?;
     begin_two(&rt, &mut hall);
     begins(&rt, &mut hall, 3);
     let first = take(&rt, b'a', b'b', b'c', b"r");
@@ -153,13 +166,7 @@ fn three_seats(rt: HostRuntime) -> Result<(), Fail> {
     commits(&rt, &mut hall, 2, 1);
     told(&rt, &mut hall, 3, Act::Commit, changed(&rt, 1, b'd'));
     assert!(rt; hall.taken(3) == Some(1));
-    if let Some(seen) = hall.graph(3) {
-        assert!(rt;
-            seen.holds(name(&rt, b'a'), Right::R, name(&rt, b'c')) && !seen.knows(name(&rt, b'n'))
-        );
-    } else {
-        assert!(rt; false);
-    }
+    rests_on_the_first(&rt, &hall, 3);
     Ok(())
 }
 
@@ -189,9 +196,7 @@ fn nine_events_in_one_run(rt: HostRuntime) -> Result<(), Fail> {
         refused(HallFault::NoSeat),
     ];
     assert!(rt; replies.as_slice() == wanted.as_slice());
-    let last = last_of(&hall)?;
-    assert!(rt; last.holds(name(&rt, b'a'), Right::R, name(&rt, b'c')));
-    Ok(())
+    ends_with(&rt, &hall, b'a', b'c', b"r")
 }
 
 #[test]
