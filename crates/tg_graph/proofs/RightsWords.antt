@@ -9,7 +9,7 @@ use Rattle.std.proofs.lemmas.List.Elements.{All-nil, All-cons, All-head, All-tai
 use Rattle.std.proofs.lemmas.List.Kept.{AllPairs-cons}
 use Rattle.std.proofs.lemmas.Nat.{or_lt}
 use Rattle.tg_graph.specs.declared.right_sets.Right.{Right}
-use Rattle.tg_graph.specs.declared.right_sets.Right.TheVariants.{T, G, R, W, E}
+use Rattle.tg_graph.specs.declared.right_sets.Right.TheVariants.{T, G, R, W, E, A, D}
 use Rattle.tg_graph.specs.declared.right_sets.Rights.{Rights}
 use Rattle.tg_graph.specs.Sets.{member, bit_of, nothing, IsNamed, right_of_letter}
 use Rattle.tg_graph.specs.Letters.{letter_of, with_right, with_new_right, with_letters}
@@ -26,6 +26,8 @@ one_letter G G e = refl
 one_letter R R e = refl
 one_letter W W e = refl
 one_letter E E e = refl
+one_letter A A e = refl
+one_letter D D e = refl
 one_letter right other e = absurd (omega arith)
 
 letter_in : (right : Right) → Contains all_letters (letter_of right)
@@ -34,6 +36,8 @@ letter_in G = (1, omega arith, refl)
 letter_in R = (2, omega arith, refl)
 letter_in W = (3, omega arith, refl)
 letter_in E = (4, omega arith, refl)
+letter_in A = (5, omega arith, refl)
+letter_in D = (6, omega arith, refl)
 
 letter_read : (right : Right) → right_of_letter (letter_of right) ≡ Some right
 letter_read T = refl
@@ -41,6 +45,8 @@ letter_read G = refl
 letter_read R = refl
 letter_read W = refl
 letter_read E = refl
+letter_read A = refl
+letter_read D = refl
 
 right_of_one : (b : ℕ) → Contains all_letters b → (right : Right) × (letter_of right ≡ b)
 right_of_one b (zero, l, e) = (T, e)
@@ -48,7 +54,9 @@ right_of_one b (suc zero, l, e) = (G, e)
 right_of_one b (suc (suc zero), l, e) = (R, e)
 right_of_one b (suc (suc (suc zero)), l, e) = (W, e)
 right_of_one b (suc (suc (suc (suc zero))), l, e) = (E, e)
-right_of_one b (suc (suc (suc (suc (suc k)))), l, e) = absurd (omega arith)
+right_of_one b (suc (suc (suc (suc (suc zero)))), l, e) = (A, e)
+right_of_one b (suc (suc (suc (suc (suc (suc zero))))), l, e) = (D, e)
+right_of_one b (suc (suc (suc (suc (suc (suc (suc k)))))), l, e) = absurd (omega arith)
 
 letter_is_read : (b : ℕ) → Contains all_letters b → (right : Right) × (right_of_letter b ≡ Some right)
 letter_is_read b h = let one = right_of_one b h in (one.0, subst (λ n. right_of_letter n ≡ Some one.0) one.1 (letter_read one.0))
@@ -66,8 +74,8 @@ module _ (b : ℕ) (right : Right) where
 
   read_letter : right_of_letter b ≡ Some right → b ≡ letter_of right
   read_letter =
-      or_later T _ (or_later G _ (or_later R _ (or_later W _ (or_later E None no_right
-      (b == 101) (λ t. (Decides-eqb b 101).0 t)) (b == 119) (λ t. (Decides-eqb b 119).0 t)) (b == 114) (λ t. (Decides-eqb b 114).0 t)) (b == 103) (λ t. (Decides-eqb b 103).0 t)) (b == 116) (λ t. (Decides-eqb b 116).0 t)
+      or_later T _ (or_later G _ (or_later R _ (or_later W _ (or_later E _ (or_later A _ (or_later D None no_right
+      (b == 100) (λ t. (Decides-eqb b 100).0 t)) (b == 97) (λ t. (Decides-eqb b 97).0 t)) (b == 101) (λ t. (Decides-eqb b 101).0 t)) (b == 119) (λ t. (Decides-eqb b 119).0 t)) (b == 114) (λ t. (Decides-eqb b 114).0 t)) (b == 103) (λ t. (Decides-eqb b 103).0 t)) (b == 116) (λ t. (Decides-eqb b 116).0 t)
 
 -- elements of a list
 
@@ -95,6 +103,8 @@ one_itself G = refl
 one_itself R = refl
 one_itself W = refl
 one_itself E = refl
+one_itself A = refl
+one_itself D = refl
 
 one_alone : (right other : Right) → IsTrue (member (record { 0 = 2 ^ bit_of right }) other) → right ≡ other
 one_alone T T m = refl
@@ -102,14 +112,18 @@ one_alone G G m = refl
 one_alone R R m = refl
 one_alone W W m = refl
 one_alone E E m = refl
+one_alone A A m = refl
+one_alone D D m = refl
 one_alone right other m = absurd (true≢false (sym m))
 
-one_named : (right : Right) → 2 ^ bit_of right < 32
+one_named : (right : Right) → 2 ^ bit_of right < 128
 one_named T = omega arith
 one_named G = omega arith
 one_named R = omega arith
 one_named W = omega arith
 one_named E = omega arith
+one_named A = omega arith
+one_named D = omega arith
 
 or_cases : (x y : Bool) → IsTrue (x || y) → IsTrue x ⊎ IsTrue y
 or_cases true y h = inl refl
@@ -137,7 +151,7 @@ module _ (s : Rights) (right : Right) where
   more_new = more right ∙ or_right (member s right) _ (one_itself right)
 
   more_named : IsNamed s → IsNamed (with_right s right)
-  more_named n = or_lt 5 s.0 (2 ^ bit_of right) n (one_named right)
+  more_named n = or_lt 7 s.0 (2 ^ bit_of right) n (one_named right)
 
 -- letters none of which s has
 record Adds (s : Rights) (bs : List ℕ) : Type 0 where
@@ -238,6 +252,8 @@ dash_is_no_letter G e = absurd (omega arith)
 dash_is_no_letter R e = absurd (omega arith)
 dash_is_no_letter W e = absurd (omega arith)
 dash_is_no_letter E e = absurd (omega arith)
+dash_is_no_letter A e = absurd (omega arith)
+dash_is_no_letter D e = absurd (omega arith)
 
 dash_exact : (bytes : List ℕ) → bytes ≡ 45 ∷ [] → IsExact bytes (Some nothing)
 dash_exact bytes e = (

@@ -1,5 +1,5 @@
 -- Rows as vertices and triples give them.
-use Rattle.std.proofs.Common.{◌≡◌, ℕ, ◌<◌, true, false, List, [], ◌∷◌, Option, None, Some, IfSome, is_some, unwrap_or, slice_get, refl, sym, ap, subst, ◌∙◌, true≢false, bytes_eq, if◌then◌else◌, arith, ⊎_elim}
+use Rattle.std.proofs.Common.{◌≡◌, ℕ, ◌<◌, true, false, List, [], ◌∷◌, Option, None, Some, IfSome, is_some, unwrap_or, slice_get, not, refl, sym, ap, subst, ◌∙◌, true≢false, bytes_eq, if◌then◌else◌, arith, ⊎_elim}
 use Rattle.std.specs.Option.{option_map, option_map_or}
 use Rattle.std.specs.Map.{keys_of, lookup}
 use Rattle.std.specs.Ordering.{ordering_reverse}
@@ -19,7 +19,7 @@ use Rattle.tg_graph.specs.declared.right_sets.Rights.{Rights}
 use Rattle.tg_graph.specs.Sets.{member, rights_where, nothing, is_empty_set, IsNamed}
 use Rattle.tg_graph.specs.Graphs.{Name, ProtectionGraph, SameGraph}
 use Rattle.tg_graph.specs.GraphOf.{graph_of}
-use Rattle.tg_graph.specs.Rows.{Edges, Entries, IsGraph, IsRow, IsLabel, label_in, label_of}
+use Rattle.tg_graph.specs.Rows.{Edges, Entries, IsGraph, IsRow, IsLabel, label_in, label_of, is_target}
 use Rattle.tg_graph.specs.Additions.{label_between}
 use Rattle.tg_graph.specs.RowsOf.{IsRowOf, unless_empty}
 use Rattle.tg_graph.specs.Laws.{RowsOfGraph, SameRows}
@@ -81,6 +81,19 @@ row_by_labels es u row r same = record {
 
 pub row_of-entry : (es : Entries) (u : List ℕ) (row : Edges) → IsGraph es → lookup (bytes_eq u) es ≡ Some row → IsRowOf (graph_of es) u row
 row_of-entry es u row g e = row_by_labels es u row (subst (λ o. IfSome o IsRow) e (g.rows u)) (λ v. ap (λ o. option_map_or (λ row. label_in row v) o nothing) e)
+
+-- an edge is there exactly where the label is not empty
+pub empty-between : (es : Entries) (u v : List ℕ) (row : Edges) → IsGraph es → lookup (bytes_eq u) es ≡ Some row → is_empty_set (label_between (graph_of es) u v) ≡ not (is_target row v)
+empty-between es u v row g e =
+    let r : IsRow row = subst (λ o. IfSome o IsRow) e (g.rows u) in
+    let l = label_found (lookup (bytes_eq v) row) (r.labelled v) in
+    ap (λ o. is_empty_set (rights_where (λ right. member (option_map_or (λ row. label_in row v) o nothing) right))) e
+    ∙ ap is_empty_set (where-member (label_in row v) l.1)
+    ∙ by (lookup (bytes_eq v) row) (r.labelled v)
+  where
+    by : (o : Option Rights) → IfSome o IsLabel → is_empty_set (unwrap_or o nothing) ≡ not (is_some o)
+    by None h = refl
+    by (Some s) h = let some : 0 < s.0 = h.some in grind (arith, nat_tests)
 
 -- there is one row of each name
 pub row_of-unique : (g h : ProtectionGraph) (u : Name) (one other : Edges) → SameGraph g h → IsRowOf g u one → IsRowOf h u other → one ≡ other

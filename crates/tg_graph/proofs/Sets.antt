@@ -6,7 +6,7 @@ use Rattle.std.proofs.lemmas.Nat.{or_lt, and_le_l, and_le_r}
 use Rattle.std.proofs.lemmas.Bool.{and_parts}
 use Rattle.std.proofs.lemmas.Bool.Decides.{nat_tests, Decides-eqb}
 use Rattle.tg_graph.specs.declared.right_sets.Right.{Right}
-use Rattle.tg_graph.specs.declared.right_sets.Right.TheVariants.{T, G, R, W, E}
+use Rattle.tg_graph.specs.declared.right_sets.Right.TheVariants.{T, G, R, W, E, A, D}
 use Rattle.tg_graph.specs.declared.right_sets.Rights.{Rights}
 use Rattle.tg_graph.specs.Sets.{member, bit_of, rights_where, weight, nothing, IsNamed}
 
@@ -33,12 +33,14 @@ member-union a b c e right =
     ap (λ n. bit_at n (bit_of right) == 1) e ∙ ap (λ n. n == 1) (bit_at_or a.0 b.0 (bit_of right))
     ∙ or_bits _ _ (bit_at-lt a.0 (bit_of right)) (bit_at-lt b.0 (bit_of right))
 
-bit_of-lt : (right : Right) → bit_of right < 5
+bit_of-lt : (right : Right) → bit_of right < 7
 bit_of-lt T = omega arith
 bit_of-lt G = omega arith
 bit_of-lt R = omega arith
 bit_of-lt W = omega arith
 bit_of-lt E = omega arith
+bit_of-lt A = omega arith
+bit_of-lt D = omega arith
 
 pub member-difference : (a b c : Rights) → c.0 ≡ bit_and a.0 (bit_not w8 b.0) → b.0 < 2 ^ 8 → (right : Right) → member c right ≡ (member a right && not (member b right))
 member-difference a b c e h right =
@@ -59,17 +61,19 @@ module _ (a b : Rights) (same : (right : Right) → member a right ≡ member b 
   at_bit : (right : Right) → bit_at a.0 (bit_of right) ≡ bit_at b.0 (bit_of right)
   at_bit right = same_bits _ _ (bit_at-lt a.0 (bit_of right)) (bit_at-lt b.0 (bit_of right)) (same right)
 
-  each_bit : (i : ℕ) → i < 5 → bit_at a.0 i ≡ bit_at b.0 i
+  each_bit : (i : ℕ) → i < 7 → bit_at a.0 i ≡ bit_at b.0 i
   each_bit zero h = at_bit T
   each_bit (suc zero) h = at_bit G
   each_bit (suc (suc zero)) h = at_bit R
   each_bit (suc (suc (suc zero))) h = at_bit W
   each_bit (suc (suc (suc (suc zero)))) h = at_bit E
-  each_bit (suc (suc (suc (suc (suc i))))) h = absurd (omega arith)
+  each_bit (suc (suc (suc (suc (suc zero))))) h = at_bit A
+  each_bit (suc (suc (suc (suc (suc (suc zero)))))) h = at_bit D
+  each_bit (suc (suc (suc (suc (suc (suc (suc i))))))) h = absurd (omega arith)
 
   -- named sets with the same members are equal
   pub same_set : IsNamed a → IsNamed b → a ≡ b
-  same_set p q = λ i. record { 0 = same_from_bits_below 5 a.0 b.0 p q each_bit i }
+  same_set p q = λ i. record { 0 = same_from_bits_below 7 a.0 b.0 p q each_bit i }
 
 -- a test at both values
 abbrev both : (Bool → Bool) → Bool
@@ -79,8 +83,8 @@ at_both : (f : Bool → Bool) → both f ≡ true → (b : Bool) → f b ≡ tru
 at_both f e true = (and_parts (f true) (f false) e).0
 at_both f e false = (and_parts (f true) (f false) e).1
 
-abbrev bits_of : Bool → Bool → Bool → Bool → Bool → ℕ
-bits_of t g r w e = weight t 1 + weight g 2 + weight r 4 + weight w 8 + weight e 16
+abbrev bits_of : Bool → Bool → Bool → Bool → Bool → Bool → Bool → ℕ
+bits_of t g r w e a d = weight t 1 + weight g 2 + weight r 4 + weight w 8 + weight e 16 + weight a 32 + weight d 64
 
 abbrev beq : Bool → Bool → Bool
 beq true y = y
@@ -91,41 +95,47 @@ beq_same true y e = sym e
 beq_same false true e = absurd (true≢false (sym e))
 beq_same false false e = refl
 
-abbrev picked : Bool → Bool → Bool → Bool → Bool → Right → Bool
-picked t g r w e T = t
-picked t g r w e G = g
-picked t g r w e R = r
-picked t g r w e W = w
-picked t g r w e E = e
+abbrev picked : Bool → Bool → Bool → Bool → Bool → Bool → Bool → Right → Bool
+picked t g r w e a d T = t
+picked t g r w e a d G = g
+picked t g r w e a d R = r
+picked t g r w e a d W = w
+picked t g r w e a d E = e
+picked t g r w e a d A = a
+picked t g r w e a d D = d
 
-abbrev reads : Right → Bool → Bool → Bool → Bool → Bool → Bool
-reads right t g r w e = beq (bit_at (bits_of t g r w e) (bit_of right) == 1) (picked t g r w e right)
+abbrev reads : Right → Bool → Bool → Bool → Bool → Bool → Bool → Bool → Bool
+reads right t g r w e a d = beq (bit_at (bits_of t g r w e a d) (bit_of right) == 1) (picked t g r w e a d right)
 
-everywhere : (right : Right) → both (λ t. both (λ g. both (λ r. both (λ w. both (λ e. reads right t g r w e))))) ≡ true
+everywhere : (right : Right) → both (λ t. both (λ g. both (λ r. both (λ w. both (λ e. both (λ a. both (λ d. reads right t g r w e a d))))))) ≡ true
 everywhere T = refl
 everywhere G = refl
 everywhere R = refl
 everywhere W = refl
 everywhere E = refl
+everywhere A = refl
+everywhere D = refl
 
-pub member-bits : (t g r w e : Bool) (right : Right) → (bit_at (bits_of t g r w e) (bit_of right) == 1) ≡ picked t g r w e right
-member-bits t g r w e right =
-    beq_same _ _ (at_both (λ e. reads right t g r w e) (at_both (λ w. both (λ e. reads right t g r w e)) (at_both (λ r. both (λ w. both (λ e. reads right t g r w e)))
-    (at_both (λ g. both (λ r. both (λ w. both (λ e. reads right t g r w e)))) (at_both (λ t. both (λ g. both (λ r. both (λ w. both (λ e. reads right t g r w e))))) (everywhere right) t) g) r) w) e)
+pub member-bits : (t g r w e a d : Bool) (right : Right) → (bit_at (bits_of t g r w e a d) (bit_of right) == 1) ≡ picked t g r w e a d right
+member-bits t g r w e a d right =
+    beq_same _ _
+    (at_both (λ d. reads right t g r w e a d) (at_both (λ a. both (λ d. reads right t g r w e a d)) (at_both (λ e. both (λ a. both (λ d. reads right t g r w e a d))) (at_both (λ w. both (λ e. both (λ a. both (λ d. reads right t g r w e a d)))) (at_both (λ r. both (λ w. both (λ e. both (λ a. both (λ d. reads right t g r w e a d))))) (at_both (λ g. both (λ r. both (λ w. both (λ e. both (λ a. both (λ d. reads right t g r w e a d)))))) (at_both (λ t. both (λ g. both (λ r. both (λ w. both (λ e. both (λ a. both (λ d. reads right t g r w e a d))))))) (everywhere right) t) g) r) w) e) a) d)
 
 pub member-where : (test : Right → Bool) (right : Right) → member (rights_where test) right ≡ test right
-member-where test T = member-bits (test T) (test G) (test R) (test W) (test E) T
-member-where test G = member-bits (test T) (test G) (test R) (test W) (test E) G
-member-where test R = member-bits (test T) (test G) (test R) (test W) (test E) R
-member-where test W = member-bits (test T) (test G) (test R) (test W) (test E) W
-member-where test E = member-bits (test T) (test G) (test R) (test W) (test E) E
+member-where test T = member-bits (test T) (test G) (test R) (test W) (test E) (test A) (test D) T
+member-where test G = member-bits (test T) (test G) (test R) (test W) (test E) (test A) (test D) G
+member-where test R = member-bits (test T) (test G) (test R) (test W) (test E) (test A) (test D) R
+member-where test W = member-bits (test T) (test G) (test R) (test W) (test E) (test A) (test D) W
+member-where test E = member-bits (test T) (test G) (test R) (test W) (test E) (test A) (test D) E
+member-where test A = member-bits (test T) (test G) (test R) (test W) (test E) (test A) (test D) A
+member-where test D = member-bits (test T) (test G) (test R) (test W) (test E) (test A) (test D) D
 
 weight-le : (b : Bool) (n : ℕ) → weight b n ≤ n
 weight-le true n = omega arith
 weight-le false n = omega arith
 
 pub named-where : (test : Right → Bool) → IsNamed (rights_where test)
-named-where test = omega (arith, weight-le (test T) 1, weight-le (test G) 2, weight-le (test R) 4, weight-le (test W) 8, weight-le (test E) 16)
+named-where test = omega (arith, weight-le (test T) 1, weight-le (test G) 2, weight-le (test R) 4, weight-le (test W) 8, weight-le (test E) 16, weight-le (test A) 32, weight-le (test D) 64)
 
 -- a named set is that of its members
 pub where-member : (s : Rights) → IsNamed s → rights_where (λ right. member s right) ≡ s
@@ -137,9 +147,11 @@ member-nothing G = refl
 member-nothing R = refl
 member-nothing W = refl
 member-nothing E = refl
+member-nothing A = refl
+member-nothing D = refl
 
 pub named-union : (a b c : Rights) → c.0 ≡ bit_or a.0 b.0 → IsNamed a → IsNamed b → IsNamed c
-named-union a b c e p q = subst (λ n. n < 32) (sym e) (or_lt 5 a.0 b.0 p q)
+named-union a b c e p q = subst (λ n. n < 128) (sym e) (or_lt 7 a.0 b.0 p q)
 
 pub named-difference : (a b c : Rights) → c.0 ≡ bit_and a.0 (bit_not w8 b.0) → IsNamed a → IsNamed c
 named-difference a b c e p = omega (arith, and_le_l a.0 (bit_not w8 b.0))
@@ -164,6 +176,8 @@ contains-one s one right e =
     positive R = omega arith
     positive W = omega arith
     positive E = omega arith
+    positive A = omega arith
+    positive D = omega arith
 
 and_bits : (x y : ℕ) → x < 2 → y < 2 → (min x y == 1) ≡ ((x == 1) && (y == 1))
 and_bits zero zero p q = refl

@@ -1,13 +1,13 @@
 -- Sets of rights as letters.
 use Rattle.std.specs.Prelude.{ℕ, ◌^◌, List, [], ◌∷◌, Option, Some, None, bytes_eq, bit_or, if◌then◌else◌}
 use Rattle.tg_graph.specs.declared.right_sets.Right.{Right}
-use Rattle.tg_graph.specs.declared.right_sets.Right.TheVariants.{T, G, R, W, E}
+use Rattle.tg_graph.specs.declared.right_sets.Right.TheVariants.{T, G, R, W, E, A, D}
 use Rattle.tg_graph.specs.declared.right_sets.Rights.{Rights}
 use Rattle.tg_graph.specs.Sets.{member, bit_of, nothing, right_of_letter}
 
--- the five rights in the order of their letters
+-- the seven rights in the order of their letters
 abbrev pub all_rights : List Right
-all_rights = T ∷ G ∷ R ∷ W ∷ E ∷ []
+all_rights = T ∷ G ∷ R ∷ W ∷ E ∷ A ∷ D ∷ []
 
 abbrev pub letter_of : Right → ℕ
 letter_of T = 116
@@ -15,6 +15,8 @@ letter_of G = 103
 letter_of R = 114
 letter_of W = 119
 letter_of E = 101
+letter_of A = 97
+letter_of D = 100
 
 -- the letters of those of the rights that are in s
 abbrev pub letters_among : Rights → List Right → List ℕ

@@ -3,7 +3,7 @@ use Rattle.std.specs.Prelude.{ℕ}
 
 -- how many vertices there may be in the graph of a text, a session or a derivation
 abbrev pub most_vertices : ℕ
-most_vertices = 1024
+most_vertices = 4096
 
 -- how many cells a journal may have
 abbrev pub most_cells : ℕ

@@ -9,7 +9,7 @@ use Rattle.tg_graph.specs.Letters.{letter_of}
 
 -- the letters of rights in their order
 abbrev pub all_letters : List ℕ
-all_letters = codes "tgrwe"
+all_letters = codes "tgrwead"
 
 -- one letter or more, none twice
 pub record AreLetters (bytes : List ℕ) : Type 0 where
@@ -30,6 +30,6 @@ pub record IsSetOf (bytes : List ℕ) (s : Rights) : Type 0 where
 abbrev pub writes_one_of : Rights → ℕ → Bool
 writes_one_of s letter = option_map_or (member s) (right_of_letter letter) false
 
--- t, g, r, w and e, those of the rights of s
+-- t, g, r, w, e, a and d, those of the rights of s
 abbrev pub in_order : Rights → List ℕ
 in_order s = filter (writes_one_of s) all_letters

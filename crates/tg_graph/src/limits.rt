@@ -4,7 +4,7 @@
 //! here alone.
 
 /// How many vertices there may be in the graph of a text, a session or a derivation.
-pub const MOST_VERTICES: usize = 1024;
+pub const MOST_VERTICES: usize = 4096;
 
 /// How many cells a journal may have. It has at least one.
 pub const MOST_CELLS: usize = 4096;

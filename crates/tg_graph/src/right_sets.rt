@@ -8,7 +8,7 @@ ghost use Rattle.tg_graph.specs.Sets.{rights_where};
 
 use bitflags::{Flag, Flags, bitflag_items};
 
-/// One right. The rules ask only for `T` and `G`, the other three are inert.
+/// One right. The rules ask only for `T` and `G`, the other five are inert.
 #[derive(Clone, Copy, PartialEq, Eq, Debug)]
 pub enum Right {
     /// Take, with the letter `t`.
@@ -21,11 +21,15 @@ pub enum Right {
     W,
     /// Execute, with the letter `e`.
     E,
+    /// Append, with the letter `a`.
+    A,
+    /// Delete, with the letter `d`.
+    D,
 }
 
 /// A set of rights, one bit for each.
 ///
-/// Calls that are given a set require that it has no bit but those of the five rights.
+/// Calls that are given a set require that it has no bit but those of the seven rights.
 #[derive(Clone, Copy, PartialEq, Eq, Debug)]
 pub struct Rights(u8);
 
@@ -36,6 +40,8 @@ bitflag_items! {
         const READ = 4;
         const WRITE = 8;
         const EXECUTE = 16;
+        const APPEND = 32;
+        const DELETE = 64;
     }
 }
 
@@ -44,7 +50,7 @@ impl Flags for Rights {
 
     ghost exact = { ⊤ };
 
-    ghost table = { (codes "TAKE", 1) ∷ (codes "GRANT", 2) ∷ (codes "READ", 4) ∷ (codes "WRITE", 8) ∷ (codes "EXECUTE", 16) ∷ [] };
+    ghost table = { (codes "TAKE", 1) ∷ (codes "GRANT", 2) ∷ (codes "READ", 4) ∷ (codes "WRITE", 8) ∷ (codes "EXECUTE", 16) ∷ (codes "APPEND", 32) ∷ (codes "DELETE", 64) ∷ [] };
 
     ghost set_of = { λ s. s.0 };
 
@@ -62,7 +68,20 @@ impl Flags for Rights {
 }
 
 impl Right {
-    /// The right of a letter, if it is one of `t`, `g`, `r`, `w` and `e`.
+    /// The rights in the order of their letters.
+    pub const ALL: [Right; 7] = [
+        Right::T,
+        Right::G,
+        Right::R,
+        Right::W,
+        Right::E,
+        Right::A,
+        Right::D,
+    ];
+}
+
+impl Right {
+    /// The right of a letter, if it is one of `t`, `g`, `r`, `w`, `e`, `a` and `d`.
     pub fn from_letter(letter: u8) -> Option<Right>
         ensures { result ≡ right_of_letter letter }
     {
@@ -72,6 +91,8 @@ impl Right {
             b'r' => Some(Right::R),
             b'w' => Some(Right::W),
             b'e' => Some(Right::E),
+            b'a' => Some(Right::A),
+            b'd' => Some(Right::D),
             _ => None,
         }
     }
@@ -88,6 +109,8 @@ impl Right {
             Right::R => b'r',
             Right::W => b'w',
             Right::E => b'e',
+            Right::A => b'a',
+            Right::D => b'd',
         }
     }
 }
@@ -104,6 +127,8 @@ impl Rights {
             Right::R => Rights::READ,
             Right::W => Rights::WRITE,
             Right::E => Rights::EXECUTE,
+            Right::A => Rights::APPEND,
+            Right::D => Rights::DELETE,
         }
     }
 
@@ -156,13 +181,15 @@ impl Rights {
             + usize::from(self.has(Right::R))
             + usize::from(self.has(Right::W))
             + usize::from(self.has(Right::E))
+            + usize::from(self.has(Right::A))
+            + usize::from(self.has(Right::D))
     }
 
-    /// The letter at an index among those of the set, in the order `t`, `g`, `r`, `w`, `e`.
+    /// The letter at an index among those of the set, in the order `t`, `g`, `r`, `w`, `e`, `a`, `d`.
     pub fn letter(self, index: usize) -> Option<u8>
         ensures { result ≡ slice_get (letters_of self) index }
     {
-        self.letter_among(&[Right::T, Right::G, Right::R, Right::W, Right::E], index)
+        self.letter_among(&Right::ALL, index)
     }
 
     // A letter of those of the rights that are in the set.

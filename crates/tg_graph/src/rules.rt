@@ -7,7 +7,7 @@ use std::alloc::AllocError;
 
 /// A rule that changes a graph. Its vertices may coincide.
 ///
-/// The rights have no bit but those of the five rights.
+/// The rights have no bit but those of the seven rights.
 #[derive(Clone, Copy, PartialEq, Eq, Debug)]
 pub enum Rule {
     /// x, which has `t` over y, takes rights that y has over z.

@@ -58,6 +58,8 @@ fn names_of_helpers(rt: HostRuntime) {
 fn letters(rt: HostRuntime) {
     assert!(rt; Right::from_letter(b'w') == Some(Right::W) && Right::from_letter(b'x').is_none());
     assert!(rt; Right::E.letter() == b'e');
+    assert!(rt; Right::from_letter(b'a') == Some(Right::A));
+    assert!(rt; Right::from_letter(b'd') == Some(Right::D));
     let rights = set(&rt, b"wgt");
     assert!(rt;
         rights.count() == 3 && rights.letter(2) == Some(b'w') && rights.letter(3).is_none()
@@ -81,9 +83,9 @@ fn words_that_are_no_set(rt: HostRuntime) {
 
 #[test]
 fn all_letters_in_order(rt: HostRuntime) {
-    let all = set(&rt, b"ewrgt");
-    assert!(rt; all.count() == 5);
-    for (place, letter) in b"tgrwe".iter().enumerate() {
+    let all = set(&rt, b"dewrgta");
+    assert!(rt; all.count() == 7);
+    for (place, letter) in b"tgrwead".iter().enumerate() {
         assert!(rt; all.letter(place) == Some(*letter));
     }
 }

@@ -3,6 +3,9 @@ use Rattle.std.proofs.lemmas.Map.Made.{is_some-lookup}
 use Rattle.tg_graph.specs.Rows.{is_known, Adds}
 use Rattle.tg_graph.specs.GraphOf.{graph_of}
 use Rattle.tg_graph.specs.Rules.{with_rights}
+use Rattle.tg_graph.specs.Sets.{is_empty_set}
+use Rattle.tg_graph.specs.Additions.{label_between}
+use Rattle.tg_graph.proofs.RowsOf.{empty-between}
 use Rattle.tg_graph.proofs.Rows.{on_err_from}
 use Rattle.tg_graph.proofs.Graphs.{joins-found, same-found, graph-joined, is_graph-joined}
 use Rattle.tg_graph.proofs.protection.Graph.join.Goals as goal
@@ -11,6 +14,12 @@ pub returns-in_default-clause-said : goal.returns-in_default-clause-said
 returns-in_default-clause-said c =
     let es = c.self.inside.rows.entries in
     absurd (true≢false (sym c.requires.source ∙ ap (λ rows. is_known rows c.args.x) (sym c.self.view_is) ∙ sym (is_some-lookup (bytes_eq c.args.x) es) ∙ sym (ap is_some c.in_default.ensures.value)))
+
+pub returns-clause-said : goal.returns-clause-said
+returns-clause-said c =
+    let es = c.self.inside.rows.entries in
+    c.in_ok-added.ensures.said
+    ∙ sym (ap (λ es. is_empty_set (label_between (graph_of es) c.args.x c.args.y)) (sym c.self.view_is) ∙ empty-between es c.args.x c.args.y c.in-Some.row.now c.self.invariant (sym c.in-Some.ensures.value))
 
 pub returns-in_err-added-clause-err : goal.returns-in_err-added-clause-err
 returns-in_err-added-clause-err c =

@@ -1,9 +1,16 @@
-use Rattle.std.proofs.Common.{◌∙◌, ap}
+use Rattle.std.proofs.Common.{◌∙◌, sym, ap, is_some, bytes_eq, true≢false}
+use Rattle.std.proofs.lemmas.Map.Made.{is_some-lookup}
+use Rattle.tg_graph.specs.Rows.{is_known}
 use Rattle.tg_graph.specs.GraphOf.{graph_of}
 use Rattle.tg_graph.specs.Rules.{without_rights}
 use Rattle.tg_graph.proofs.Rows.{on_err_from}
 use Rattle.tg_graph.proofs.Graphs.{alters, changes-found, same-found, graph-takes, is_graph-takes}
 use Rattle.tg_graph.proofs.protection.Graph.withdraw.Goals as goal
+
+pub returns-in_default-clause-taken : goal.returns-in_default-clause-taken
+returns-in_default-clause-taken c =
+    let es = c.self.inside.rows.entries in
+    absurd (true≢false (sym c.requires.source ∙ ap (λ rows. is_known rows c.args.x) (sym c.self.view_is) ∙ sym (is_some-lookup (bytes_eq c.args.x) es) ∙ sym (ap is_some c.in_default.ensures.value)))
 
 pub returns-in_err-take-clause-err : goal.returns-in_err-take-clause-err
 returns-in_err-take-clause-err c =
