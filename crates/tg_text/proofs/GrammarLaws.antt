@@ -29,7 +29,7 @@ same_value x y e = cc
 abbrev pub failed : (A : Type 0) → ℕ × TextKind → Result A (ℕ × TextKind)
 failed A x = Err x
 
-same_fault : (A : Type 0) (x y : ℕ × TextKind) → failed A x ≡ failed A y → x ≡ y
+pub same_fault : (A : Type 0) (x y : ℕ × TextKind) → failed A x ≡ failed A y → x ≡ y
 same_fault A x y e = cc
 
 pub same_number : {A : Type 0} (r : Result A (ℕ × TextKind)) (m n : ℕ) (j k : TextKind) → r ≡ Err (n, j) → r ≡ Err (m, k) → n ≡ m

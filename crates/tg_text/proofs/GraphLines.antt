@@ -38,7 +38,7 @@ module _ (es : Entries) (g : IsGraph es) (u : Name) where
       by (Some row) h = named_in row v h
 
   -- the label by its members is the label that is kept
-  between : (v : Name) → label_between (graph_of es) u v ≡ label_of es u v
+  pub between : (v : Name) → label_between (graph_of es) u v ≡ label_of es u v
   between v = same_set (label_between (graph_of es) u v) (label_of es u v) (member-where (λ right. member (label_of es u v) right)) (named-where (λ right. member (label_of es u v) right)) (named_of v)
 
   row_by_labels : row_text (graph_of es) (in_name_order (keys_of es)) u ≡ flat_map (λ v. edge_line u v (label_of es u v)) (in_name_order (keys_of es))

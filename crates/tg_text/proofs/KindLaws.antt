@@ -14,7 +14,7 @@ use Rattle.tg_text.specs.Limits.{most_entries, most_line_bytes}
 use Rattle.tg_text.specs.Lines.{lines_of, words_of, is_skipped}
 use Rattle.tg_text.specs.Words.{Word}
 use Rattle.tg_text.specs.Reading.{◌>>=◌, after_line, after_lines}
-use Rattle.tg_text.specs.GraphText.{empty_graph, graph_item, graph_text}
+use Rattle.tg_text.specs.GraphText.{nothing_read, graph_item, graph_text}
 use Rattle.tg_text.specs.RuleText.{rule_of_words, rule_line, rule_item, rules_text}
 use Rattle.tg_text.specs.ScriptText.{ScriptOf, event_of_words, event_item, script_item, with_header, script_text}
 use Rattle.tg_text.specs.GraphGrammar.{IsGraphItem}
@@ -26,7 +26,7 @@ use Rattle.tg_text.proofs.LeastKind.{word_kinds, all_kinds, first_kind, fault_of
 use Rattle.tg_text.proofs.FormKinds.{same_fault, with_last, rule_kinds, header_kinds, event_kinds}
 use Rattle.tg_text.proofs.GraphKinds.{graph_kinds}
 use Rattle.tg_text.proofs.GrammarLaws.{cases_result, lines_ok, lines_from, lines_fault_kind, fault_from}
-use Rattle.tg_text.proofs.GraphLaws.{graph_item_ok, graph_item_from}
+use Rattle.tg_text.proofs.GraphLaws.{graph_item_ok, graph_item_from, lines_refused}
 use Rattle.tg_text.proofs.RuleLaws.{rule_item_ok, rule_item_from}
 use Rattle.tg_text.proofs.ScriptLaws.{State, start, item_is, item_back, partial}
 
@@ -50,16 +50,17 @@ line_kinds item condition a line e = line_plain (ltb most_line_bytes (length lin
 -- ---- graphs
 
 pub graph_line_kinds : GraphLineKinds
-graph_line_kinds g line kind =
-    exactly_least (after_line graph_item g line) (of_line (graph_condition g) line) (line_kinds graph_item (graph_condition g) g line (graph_kinds g (words_of line))) kind
+graph_line_kinds made line kind =
+    exactly_least (after_line graph_item made line) (of_line (graph_condition made) line) (line_kinds graph_item (graph_condition made) made line (graph_kinds made (words_of line))) kind
 
 pub graph_text_kinds : GraphTextKinds
 unfolding graph_text
 graph_text_kinds text m kind = (
   λ e.
-      let found = lines_fault_kind (λ n. graph_item) (λ n. IsGraphItem) graph_item_ok graph_item_from 1 empty_graph (lines_of text) m kind e in
+      let refused = lines_refused (after_lines (λ n. graph_item) 1 nothing_read (lines_of text)) (m, kind) e in
+      let found = lines_fault_kind (λ n. graph_item) (λ n. IsGraphItem) graph_item_ok graph_item_from 1 nothing_read (lines_of text) m kind refused in
       record { first = found.0; kind_of_line = (graph_line_kinds found.0.before found.0.line kind).0 found.1 },
-  λ h. fault_from (λ n. graph_item) (λ n. IsGraphItem) graph_item_ok graph_item_from empty_graph (lines_of text) m kind h.first ((graph_line_kinds h.first.before h.first.line kind).1 h.kind_of_line),
+  λ h. ap (λ read. read >>= λ made. Ok made.1) (fault_from (λ n. graph_item) (λ n. IsGraphItem) graph_item_ok graph_item_from nothing_read (lines_of text) m kind h.first ((graph_line_kinds h.first.before h.first.line kind).1 h.kind_of_line)),
 )
 
 -- ---- rules

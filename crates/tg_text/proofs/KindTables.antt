@@ -3,7 +3,6 @@ use Rattle.std.proofs.Common.{◌≡◌, refl, sym, ◌∙◌, ◌&&◌, subst, 
 use Rattle.std.specs.Prelude.{Contains, IsTrue}
 use Rattle.std.specs.List.{AllByRecursion}
 use Rattle.std.proofs.lemmas.Bool.{false≢true, and_parts}
-use Rattle.tg_graph.specs.Graphs.{ProtectionGraph}
 use Rattle.tg_text.specs.declared.faults.TextKind.{TextKind}
 use Rattle.tg_text.specs.declared.faults.TextKind.TheVariants.{LineTooLong, BadWord, WordCount, BadNumber, BadName, BadRights, DuplicateVertex, TooManyVertices, UnknownVertex, DuplicateEdge, TooMany, NoHeader}
 use Rattle.tg_text.specs.declared.rule_text.RuleLine.{RuleLine}
@@ -11,7 +10,8 @@ use Rattle.tg_text.specs.declared.script_text.ScriptLine.{ScriptLine}
 use Rattle.tg_text.specs.declared.script_text.Header.{Header}
 use Rattle.tg_text.specs.Lines.{words_of, is_skipped}
 use Rattle.tg_text.specs.Words.{Word, is_word}
-use Rattle.tg_text.specs.Forms.{Form, form_in, graph_forms, rule_forms, some_word, is_bad_number}
+use Rattle.tg_text.specs.GraphText.{GraphSoFar}
+use Rattle.tg_text.specs.Forms.{Form, form_in, rule_forms, some_word, is_bad_number}
 use Rattle.tg_text.specs.FaultKinds.{of_line, graph_condition, rule_condition, one_rule_condition, script_condition, graph_kinds, one_rule_kinds, rules_kinds, script_kinds, GraphHasTheseKinds, OneRuleHasTheseKinds, RulesHaveTheseKinds, ScriptHasTheseKinds}
 use Rattle.tg_text.proofs.FormKinds.{Numberless, no_bad_number, found_numberless, two_numberless, three_numberless}
 use Rattle.tg_text.proofs.KindLaws.{graph_text_kinds, rules_text_kinds, script_text_kinds}
@@ -27,9 +27,6 @@ no_number_among : (forms : List (Word × Form)) → AllByRecursion (λ (entry : 
 no_number_among forms h [] = refl
 no_number_among forms h (word ∷ words) = no_number (form_in forms (word ∷ words)) (word ∷ words) (found_numberless (is_word word) forms h)
 
-graph_numberless : AllByRecursion (λ (entry : Word × Form). Numberless entry.1) graph_forms
-graph_numberless = ((λ word. refl, (λ word. refl, tt)), ((λ word. refl, (λ word. refl, (λ word. refl, (λ word. refl, tt)))), tt))
-
 rules_numberless : AllByRecursion (λ (entry : Word × Form). Numberless entry.1) rule_forms
 rules_numberless = (three_numberless, (three_numberless, (two_numberless, (two_numberless, tt))))
 
@@ -38,19 +35,19 @@ rules_numberless = (three_numberless, (three_numberless, (two_numberless, (two_n
 never : (skipped condition : Bool) → condition ≡ false → IsTrue (not skipped && condition) → ⊥
 never skipped condition none h = false≢true (sym none ∙ (and_parts (not skipped) condition h).1)
 
-of_graph : (g : ProtectionGraph) (line : List ℕ) (kind : TextKind) → IsTrue (of_line (graph_condition g) line kind) → Contains graph_kinds kind
-of_graph g line LineTooLong h = (0, omega arith, refl)
-of_graph g line BadWord h = (1, omega arith, refl)
-of_graph g line WordCount h = (2, omega arith, refl)
-of_graph g line BadNumber h = absurd (never (is_skipped (words_of line)) (some_word is_bad_number (form_in graph_forms (words_of line)) (words_of line)) (no_number_among graph_forms graph_numberless (words_of line)) h)
-of_graph g line BadName h = (3, omega arith, refl)
-of_graph g line BadRights h = (4, omega arith, refl)
-of_graph g line DuplicateVertex h = (5, omega arith, refl)
-of_graph g line TooManyVertices h = (6, omega arith, refl)
-of_graph g line UnknownVertex h = (7, omega arith, refl)
-of_graph g line DuplicateEdge h = (8, omega arith, refl)
-of_graph g line TooMany h = absurd (never (is_skipped (words_of line)) false refl h)
-of_graph g line NoHeader h = absurd (never (is_skipped (words_of line)) false refl h)
+of_graph : (made : GraphSoFar) (line : List ℕ) (kind : TextKind) → IsTrue (of_line (graph_condition made) line kind) → Contains graph_kinds kind
+of_graph made line LineTooLong h = (0, omega arith, refl)
+of_graph made line BadWord h = (1, omega arith, refl)
+of_graph made line WordCount h = (2, omega arith, refl)
+of_graph made line BadNumber h = (3, omega arith, refl)
+of_graph made line BadName h = (4, omega arith, refl)
+of_graph made line BadRights h = (5, omega arith, refl)
+of_graph made line DuplicateVertex h = (6, omega arith, refl)
+of_graph made line TooManyVertices h = (7, omega arith, refl)
+of_graph made line UnknownVertex h = (8, omega arith, refl)
+of_graph made line DuplicateEdge h = (9, omega arith, refl)
+of_graph made line TooMany h = absurd (never (is_skipped (words_of line)) false refl h)
+of_graph made line NoHeader h = absurd (never (is_skipped (words_of line)) false refl h)
 
 pub graph_has_these_kinds : GraphHasTheseKinds
 graph_has_these_kinds text m kind e = let f = (graph_text_kinds text m kind).0 e in of_graph f.first.before f.first.line kind f.kind_of_line.holds

@@ -16,6 +16,7 @@ pub mod Letters
 pub mod NameOrder
 pub mod RowLines
 pub mod GraphLines
+pub mod Labels
 pub mod PlainWords
 pub mod RightsBack
 pub mod RuleBack

@@ -5,7 +5,7 @@ use Rattle.std.proofs.lemmas.List.{append_assoc, append-nil}
 use Rattle.std.proofs.lemmas.Bool.{and_parts, not-true}
 use Rattle.std.proofs.lemmas.Bool.Decides.{nat_tests}
 use Rattle.tg_graph.specs.declared.right_sets.Right.{Right}
-use Rattle.tg_graph.specs.declared.right_sets.Right.TheVariants.{T, G, R, W, E}
+use Rattle.tg_graph.specs.declared.right_sets.Right.TheVariants.{T, G, R, W, E, A, D}
 use Rattle.tg_graph.specs.declared.right_sets.Rights.{Rights}
 use Rattle.tg_graph.specs.Graphs.{Name}
 use Rattle.tg_graph.specs.Names.{IsName, first_bad, fits_at, name_of, checked}
@@ -101,6 +101,8 @@ letter-plain G = refl
 letter-plain R = refl
 letter-plain W = refl
 letter-plain E = refl
+letter-plain A = refl
+letter-plain D = refl
 
 letters-plain : (s : Rights) (rights : List Right) → Plain (letters_among s rights)
 letters-plain s [] = tt
@@ -117,11 +119,11 @@ dash_word (b ∷ bs) p = record { some = omega arith; plain = p }
 pub rights_word : (s : Rights) → IsPlainWord (rights_text s)
 rights_word s = dash_word (letters_of s) (letters-plain s all_rights)
 
-length-dash : (bs : List ℕ) → length bs ≤ 5 → length (or_dash bs) ≤ 5
+length-dash : (bs : List ℕ) → length bs ≤ 7 → length (or_dash bs) ≤ 7
 length-dash [] h = omega arith
 length-dash (b ∷ bs) h = h
 
-pub length-rights : (s : Rights) → length (rights_text s) ≤ 5
+pub length-rights : (s : Rights) → length (rights_text s) ≤ 7
 length-rights s = length-dash (letters_of s) (length-letters s all_rights)
 
 -- a name is read as it stands

@@ -16,17 +16,17 @@ set_with n = record { 0 = n }
 abbrev comes_back : ℕ → Bool
 comes_back n = option_map_or (λ (s : Rights). s.0 == n) (set_of_letters (rights_text (set_with n))) false
 
-each_comes_back : list_all comes_back (range_with_len 0 32) ≡ true
+each_comes_back : list_all comes_back (range_with_len 0 128) ≡ true
 each_comes_back = refl
 
-comes_back-below : (n : ℕ) → n < 32 → comes_back n ≡ true
+comes_back-below : (n : ℕ) → n < 128 → comes_back n ≡ true
 comes_back-below n h = by (comes_back n) refl
   where
     by : (b : Bool) → comes_back n ≡ b → comes_back n ≡ true
     by true e = e
     by false e =
         let same : 0 + n ≡ n = omega arith in
-        absurd (true≢false (sym each_comes_back ∙ list_all_at comes_back (range_with_len 0 32) n 0 (omega (arith, length-range_with_len 0 32)) (ap comes_back (get_or-range_with_len 0 32 n 0 h ∙ same) ∙ e)))
+        absurd (true≢false (sym each_comes_back ∙ list_all_at comes_back (range_with_len 0 128) n 0 (omega (arith, length-range_with_len 0 128)) (ap comes_back (get_or-range_with_len 0 128 n 0 h ∙ same) ∙ e)))
 
 pub rights-back : (s : Rights) → IsNamed s → set_of_letters (rights_text s) ≡ Some s
 rights-back s h = by (set_of_letters (rights_text s)) (comes_back-below s.0 h)

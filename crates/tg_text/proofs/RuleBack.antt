@@ -51,7 +51,7 @@ plain-rule (Grant x y z s) (p, q, r, n) = (word_from_test (codes "grant") refl r
 plain-rule (Create x m s) (p, q, n) = (word_from_test (codes "create") refl refl, (name_word x p, (name_word m q, (rights_word s, tt))))
 plain-rule (Remove x y s) (p, q, n) = (word_from_test (codes "remove") refl refl, (name_word x p, (name_word y q, (rights_word s, tt))))
 
-pub length-two : (word x : Word) (s : Rights) → length (spaced (word ∷ x ∷ rights_text s ∷ [])) ≤ length word + length x + 7
+pub length-two : (word x : Word) (s : Rights) → length (spaced (word ∷ x ∷ rights_text s ∷ [])) ≤ length word + length x + 9
 length-two word x s = omega (arith, length-append word (32 ∷ spaced (x ∷ rights_text s ∷ [])), length-append x (32 ∷ rights_text s), length-rights s)
 
 pub length-more : (word : Word) (next : Word) (words : List Word) → length (spaced (word ∷ next ∷ words)) ≡ length word + 1 + length (spaced (next ∷ words))

@@ -17,10 +17,10 @@ use Rattle.tg_text.specs.declared.script_text.ScriptLine.{ScriptLine}
 use Rattle.tg_text.specs.declared.script_text.Header.{Header}
 use Rattle.tg_text.specs.declared.script_text.Header.TheVariants.{Nothing, Seats, Whole}
 use Rattle.tg_text.specs.Lines.{lines_of}
-use Rattle.tg_text.specs.Words.{Word, is_word, value_or, name_at, right_at, right_of, one_word, three_words, number_of, at_most, number_up_to}
+use Rattle.tg_text.specs.Words.{Word, is_word, value_or, name_at, right_at, right_of, one_word, three_words, number_of, at_most, number_up_to, header_number}
 use Rattle.tg_text.specs.Reading.{◌>>=◌, after_lines}
 use Rattle.tg_text.specs.RuleText.{rule_of_words}
-use Rattle.tg_text.specs.ScriptText.{ScriptOf, right_and_names, act_alone, act_of_words, seated, event_of_words, event_item, header_number, script_item, with_header, script_text}
+use Rattle.tg_text.specs.ScriptText.{ScriptOf, right_and_names, act_alone, act_of_words, seated, event_of_words, event_item, script_item, with_header, script_text}
 use Rattle.tg_text.specs.Grammar.{AreLines, IsFirstFault}
 use Rattle.tg_text.specs.RuleGrammar.{SpellsRule}
 use Rattle.tg_text.specs.ScriptGrammar.{SpellsQuestion, SpellsAct, SpellsNumber, IsHeaderLine, IsEventLine, IsScriptItem, EndsEarly, ScriptTextsAreThose, ScriptFaultsAreFirst}
@@ -202,7 +202,7 @@ event_from n seats lines words more h =
 abbrev failed : Result ℕ TextKind
 failed = Err BadWord
 
-header_ok : (name : Word) (limit : ℕ) (words : List Word) (n : ℕ) → header_number name limit words ≡ Ok n → IsHeaderLine name limit words n
+pub header_ok : (name : Word) (limit : ℕ) (words : List Word) (n : ℕ) → header_number name limit words ≡ Ok n → IsHeaderLine name limit words n
 unfolding header_number
 header_ok name limit [] n e = absurd cc
 header_ok name limit (word ∷ words) n e =
@@ -220,7 +220,7 @@ header_ok name limit (word ∷ words) n e =
 same_word : (word : Word) → is_word word word ≡ true
 same_word word = (bytes_eq-Decides word word).1 refl
 
-header_from : (name : Word) (limit : ℕ) (words : List Word) (n : ℕ) → IsHeaderLine name limit words n → header_number name limit words ≡ Ok n
+pub header_from : (name : Word) (limit : ℕ) (words : List Word) (n : ℕ) → IsHeaderLine name limit words n → header_number name limit words ≡ Ok n
 unfolding header_number
 header_from name limit words n h =
     let read : header_number name limit (name ∷ h.word ∷ []) ≡ Ok n = ap (λ (t : Bool). cond t (number_up_to limit h.word) failed) (same_word name) ∙ number_from limit h.word n h.number in

@@ -4,7 +4,6 @@ use Rattle.std.specs.Option.{option_map_or}
 use Rattle.tg_graph.specs.Sets.{is_empty_set}
 use Rattle.tg_graph.specs.Additions.{label_between}
 use Rattle.tg_graph.specs.Graphs.{ProtectionGraph, has_vertex}
-use Rattle.tg_graph.specs.Limits.{most_vertices}
 use Rattle.tg_text.specs.declared.faults.TextKind.{TextKind}
 use Rattle.tg_text.specs.declared.faults.TextKind.TheVariants.{LineTooLong, BadWord, WordCount, BadNumber, BadName, BadRights, DuplicateVertex, TooManyVertices, UnknownVertex, DuplicateEdge, TooMany, NoHeader}
 use Rattle.tg_text.specs.declared.rule_text.RuleLine.{RuleLine}
@@ -15,7 +14,8 @@ use Rattle.tg_text.specs.Limits.{most_entries, most_line_bytes}
 use Rattle.tg_text.specs.Lines.{lines_of, words_of, is_skipped}
 use Rattle.tg_text.specs.Words.{Word, is_word}
 use Rattle.tg_text.specs.Reading.{after_line}
-use Rattle.tg_text.specs.GraphText.{empty_graph, graph_line, graph_text}
+use Rattle.tg_text.specs.Versions.{limit_of, version_of}
+use Rattle.tg_text.specs.GraphText.{GraphSoFar, nothing_read, graph_line, graph_text}
 use Rattle.tg_text.specs.RuleText.{rule_of_line, rule_item, rules_text}
 use Rattle.tg_text.specs.ScriptText.{script_item, script_text}
 use Rattle.tg_text.specs.Grammar.{IsFirstFault}
@@ -73,12 +73,12 @@ abbrev pub names_edge : ProtectionGraph → List Word → Bool
 names_edge g words = passes_at 1 (λ x. passes_at 2 (λ y. not (is_empty_set (label_between g x y))) words) words
 
 -- of the words of a line of a graph
-abbrev pub graph_condition : ProtectionGraph → List Word → TextKind → Bool
-graph_condition g words DuplicateVertex = begins_with (codes "vertex") words && passes_at 1 (has_vertex g) words
-graph_condition g words TooManyVertices = begins_with (codes "vertex") words && nat_le most_vertices (length g.vertices)
-graph_condition g words UnknownVertex = begins_with (codes "edge") words && (passes_at 1 (λ x. not (has_vertex g x)) words || passes_at 2 (λ y. not (has_vertex g y)) words)
-graph_condition g words DuplicateEdge = begins_with (codes "edge") words && names_edge g words
-graph_condition g words kind = form_condition (form_in graph_forms words) words kind
+abbrev pub graph_condition : GraphSoFar → List Word → TextKind → Bool
+graph_condition made words DuplicateVertex = begins_with (codes "vertex") words && passes_at 1 (has_vertex made.1) words
+graph_condition made words TooManyVertices = begins_with (codes "vertex") words && nat_le (limit_of (version_of made.0)) (length made.1.vertices)
+graph_condition made words UnknownVertex = begins_with (codes "edge") words && (passes_at 1 (λ x. not (has_vertex made.1 x)) words || passes_at 2 (λ y. not (has_vertex made.1 y)) words)
+graph_condition made words DuplicateEdge = begins_with (codes "edge") words && names_edge made.1 words
+graph_condition made words kind = form_condition (form_in (graph_forms made.0) words) words kind
 
 -- ---- rules
 
@@ -113,11 +113,11 @@ pub record IsFaultOf {A : Type 0} (item : ℕ → A → List Word → A → Type
 
 -- a line of a graph is refused exactly with the least kind
 abbrev pub GraphLineKinds : Type 0
-GraphLineKinds = (g : ProtectionGraph) (line : List ℕ) (kind : TextKind) → (graph_line g line ≡ Err kind) ↔ IsLeastKind (of_line (graph_condition g) line) kind
+GraphLineKinds = (made : GraphSoFar) (line : List ℕ) (kind : TextKind) → (graph_line made line ≡ Err kind) ↔ IsLeastKind (of_line (graph_condition made) line) kind
 
 -- and a text exactly with its first faulty line and the least kind of that line
 abbrev pub GraphTextKinds : Type 0
-GraphTextKinds = (text : List ℕ) (m : ℕ) (kind : TextKind) → (graph_text text ≡ Err (m, kind)) ↔ IsFaultOf (λ n. IsGraphItem) graph_condition empty_graph (lines_of text) m kind
+GraphTextKinds = (text : List ℕ) (m : ℕ) (kind : TextKind) → (graph_text text ≡ Err (m, kind)) ↔ IsFaultOf (λ n. IsGraphItem) graph_condition nothing_read (lines_of text) m kind
 
 -- a line that is to be one rule is refused exactly with the least kind
 abbrev pub OneRuleKinds : Type 0
@@ -146,7 +146,7 @@ NoHeaderIsEndsEarly = (text : List ℕ) (m : ℕ) → (script_text text ≡ Err 
 -- ---- the kinds that each text has
 
 abbrev pub graph_kinds : List TextKind
-graph_kinds = LineTooLong ∷ BadWord ∷ WordCount ∷ BadName ∷ BadRights ∷ DuplicateVertex ∷ TooManyVertices ∷ UnknownVertex ∷ DuplicateEdge ∷ []
+graph_kinds = LineTooLong ∷ BadWord ∷ WordCount ∷ BadNumber ∷ BadName ∷ BadRights ∷ DuplicateVertex ∷ TooManyVertices ∷ UnknownVertex ∷ DuplicateEdge ∷ []
 
 abbrev pub one_rule_kinds : List TextKind
 one_rule_kinds = LineTooLong ∷ BadWord ∷ WordCount ∷ BadName ∷ BadRights ∷ []

@@ -1,5 +1,5 @@
 -- The forms of lines: what stands at each place.
-use Rattle.std.specs.Prelude.{ℕ, ◌==◌, nat_lt, not, Bool, true, false, List, [], ◌∷◌, length, codes, is_some, is_ok, bytes_eq, zip, Option, None}
+use Rattle.std.specs.Prelude.{ℕ, ◌==◌, nat_lt, not, Bool, true, false, List, [], ◌∷◌, length, codes, is_some, is_ok, bytes_eq, zip, Option, None, Some, ◌||◌}
 use Rattle.std.specs.List.{list_any}
 use Rattle.std.specs.Map.{lookup}
 use Rattle.std.specs.Option.{option_map, option_map_or}
@@ -7,25 +7,35 @@ use Rattle.tg_graph.specs.Names.{name_of}
 use Rattle.tg_graph.specs.Sets.{is_empty_set}
 use Rattle.tg_graph.specs.Letters.{set_of_letters}
 use Rattle.tg_graph.specs.Limits.{most_cells, most_seats}
+use Rattle.tg_text.specs.declared.versions.Version.{Version}
 use Rattle.tg_text.specs.declared.script_text.Header.{Header}
 use Rattle.tg_text.specs.declared.script_text.Header.TheVariants.{Nothing, Seats, Whole}
 use Rattle.tg_text.specs.Words.{Word, number_of, right_of}
+use Rattle.tg_text.specs.Versions.{has_letters, last_version, version_of}
 
--- a word that says what the line is, a number from 1 to a limit, a name, a set of rights, a set that is not empty, or one right
+-- a word that says what the line is, a number from 1 to a limit, a name, a set of rights, a set that is not empty in letters of a version, or one right
 pub data Place : Type 0 where
   AKeyword : Place
   ANumber : ℕ → Place
   AName : Place
   ASet : Place
-  ALabel : Place
+  ALabel : Version → Place
   ARight : Place
 
 abbrev pub Form : Type 0
 Form = List Place
 
--- the lines of a graph, by their first word
-abbrev pub graph_forms : List (Word × Form)
-graph_forms = (codes "vertex", AKeyword ∷ AName ∷ []) ∷ (codes "edge", AKeyword ∷ AName ∷ AName ∷ ALabel ∷ []) ∷ []
+-- the line of a version, which stands before all others
+abbrev pub version_forms : Option Version → List (Word × Form)
+version_forms None = (codes "version", AKeyword ∷ ANumber last_version ∷ []) ∷ []
+version_forms (Some version) = []
+
+-- the lines of a graph, by their first word, after those that began with this version
+abbrev pub graph_forms : Option Version → List (Word × Form)
+graph_forms begun =
+    (codes "vertex", AKeyword ∷ AName ∷ [])
+    ∷ (codes "edge", AKeyword ∷ AName ∷ AName ∷ ALabel (version_of begun) ∷ [])
+    ∷ version_forms begun
 
 -- the lines of rules, by their first word
 abbrev pub rule_forms : List (Word × Form)
@@ -82,9 +92,9 @@ abbrev pub is_bad_name : Place → Word → Bool
 is_bad_name AName word = not (is_ok (name_of word))
 is_bad_name _ word = false
 
--- a word for a set or a right writes none; that of a label may not write the empty set
+-- a word for a set or a right writes none; that of a label may not write the empty set, nor a right without a letter in the version
 abbrev pub are_bad_rights : Place → Word → Bool
 are_bad_rights ASet word = not (is_some (set_of_letters word))
-are_bad_rights ALabel word = option_map_or is_empty_set (set_of_letters word) true
+are_bad_rights (ALabel version) word = option_map_or (λ s. is_empty_set s || not (has_letters version s)) (set_of_letters word) true
 are_bad_rights ARight word = not (is_some (right_of word))
 are_bad_rights _ word = false

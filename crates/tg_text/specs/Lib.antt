@@ -2,6 +2,7 @@ pub mod Limits
 pub mod Lines
 pub mod Reading
 pub mod Words
+pub mod Versions
 pub mod GraphText
 pub mod RuleText
 pub mod ScriptText

@@ -5,6 +5,10 @@ use Rattle.std.specs.Prelude.{ℕ}
 abbrev pub most_line_bytes : ℕ
 most_line_bytes = 256
 
+-- how many vertices a graph's text of version 1 may have
+abbrev pub most_vertices_of_one : ℕ
+most_vertices_of_one = 1024
+
 -- how many rules or events a text may have
 abbrev pub most_entries : ℕ
 most_entries = 65536

@@ -15,7 +15,7 @@ use Rattle.tg_text.specs.declared.script_text.Header.{Header}
 use Rattle.tg_text.specs.declared.script_text.Header.TheVariants.{Nothing, Seats, Whole}
 use Rattle.tg_text.specs.Lines.{lines_of}
 use Rattle.tg_text.specs.Reading.{◌>>=◌, after_lines, with_item}
-use Rattle.tg_text.specs.Words.{Word, is_word, no_words, one_word, three_words, name_at, right_at, number_up_to}
+use Rattle.tg_text.specs.Words.{Word, is_word, no_words, three_words, name_at, right_at, number_up_to, header_number}
 use Rattle.tg_text.specs.RuleText.{rule_of_words}
 use Rattle.tg_graph.specs.Limits.{most_cells, most_seats}
 use Rattle.tg_text.specs.Limits.{most_entries}
@@ -71,12 +71,6 @@ event_of_words n seats (word ∷ words) = seated n (number_up_to seats word) (ac
 -- one more event, of the line with this number
 unfoldable pub event_item : ℕ → ℕ → List ScriptLine → List Word → Result (List ScriptLine) TextKind
 event_item n seats lines words = with_item most_entries lines (event_of_words n seats words)
-
--- the number in a header line, which begins with the keyword
-unfoldable pub header_number : Word → ℕ → List Word → Result ℕ TextKind
-header_number keyword limit [] = Err BadWord
-header_number keyword limit (word ∷ words) =
-    if is_word word keyword then (one_word words >>= λ number. number_up_to limit number) else Err BadWord
 
 -- what a line adds to the header and the events that the earlier lines made
 unfoldable pub script_item : ℕ → Header × List ScriptLine → List Word → Result (Header × List ScriptLine) TextKind

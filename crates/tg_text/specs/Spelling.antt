@@ -19,7 +19,7 @@ abbrev pub or_dash : List ℕ → List ℕ
 or_dash [] = codes "-"
 or_dash (b ∷ bs) = b ∷ bs
 
--- a set of rights by its letters in the order t g r w e
+-- a set of rights by its letters in the order t g r w e a d
 abbrev pub rights_text : Rights → List ℕ
 rights_text s = or_dash (letters_of s)
 

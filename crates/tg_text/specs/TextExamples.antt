@@ -6,7 +6,8 @@ use Rattle.tg_text.specs.declared.faults.TextKind.TheVariants.{WordCount, BadRig
 use Rattle.tg_text.specs.WordLaws.{with_feeds}
 use Rattle.tg_text.specs.GraphText.{graph_text, vertex_item, edge_item, graph_item}
 use Rattle.tg_text.specs.RuleText.{two_names, three_names, rule_of_words, rule_line, rule_item, rules_text}
-use Rattle.tg_text.specs.ScriptText.{act_of_words, event_of_words, event_item, header_number, script_item, script_text}
+use Rattle.tg_text.specs.ScriptText.{act_of_words, event_of_words, event_item, script_item, script_text}
+use Rattle.tg_text.specs.Words.{header_number}
 
 an_edge_has_four_words : graph_text (with_feeds (codes "vertex a" ∷ []) ++ codes "edge a") ≡ Err (2, WordCount)
 unfolding graph_text graph_item vertex_item edge_item
@@ -19,6 +20,18 @@ no_letter_stands_twice = refl
 no_edge_stands_twice : graph_text (with_feeds (codes "vertex a" ∷ codes "vertex b" ∷ codes "edge a b r" ∷ codes "edge a b w" ∷ [])) ≡ Err (4, DuplicateEdge)
 unfolding graph_text graph_item vertex_item edge_item
 no_edge_stands_twice = refl
+
+a_version_stands_first : graph_text (with_feeds (codes "vertex a" ∷ codes "version 2" ∷ [])) ≡ Err (2, BadWord)
+unfolding graph_text graph_item vertex_item edge_item header_number
+a_version_stands_first = refl
+
+there_is_no_version_three : graph_text (with_feeds (codes "# x" ∷ codes "version 3" ∷ [])) ≡ Err (2, BadNumber)
+unfolding graph_text graph_item vertex_item edge_item header_number
+there_is_no_version_three = refl
+
+version_one_has_no_d : graph_text (with_feeds (codes "version 1" ∷ codes "vertex a" ∷ codes "edge a a d" ∷ [])) ≡ Err (3, BadRights)
+unfolding graph_text graph_item vertex_item edge_item header_number
+version_one_has_no_d = refl
 
 a_script_begins_with_seats : script_text (with_feeds (codes "cells 8" ∷ [])) ≡ Err (1, BadWord)
 unfolding script_text script_item header_number

@@ -6,7 +6,7 @@ use Rattle.tg_graph.specs.Names.{name_of}
 use Rattle.tg_graph.specs.Sets.{right_of_letter}
 use Rattle.tg_graph.specs.Letters.{set_of_letters}
 use Rattle.tg_text.specs.declared.faults.TextKind.{TextKind}
-use Rattle.tg_text.specs.declared.faults.TextKind.TheVariants.{WordCount, BadNumber, BadName, BadRights}
+use Rattle.tg_text.specs.declared.faults.TextKind.TheVariants.{BadWord, WordCount, BadNumber, BadName, BadRights}
 use Rattle.tg_text.specs.Reading.{◌>>=◌}
 
 abbrev pub Word : Type 0
@@ -77,6 +77,12 @@ four_words (a ∷ words) = three_words words >>= λ w. Ok (a, w.0, w.1, w.2)
 
 abbrev pub is_word : Word → Word → Bool
 is_word = bytes_eq
+
+-- the number in a header line, which begins with the keyword
+unfoldable pub header_number : Word → ℕ → List Word → Result ℕ TextKind
+header_number keyword limit [] = Err BadWord
+header_number keyword limit (word ∷ words) =
+    if is_word word keyword then (one_word words >>= λ number. number_up_to limit number) else Err BadWord
 
 a_number_has_no_zero_in_front : number_of (codes "01") ≡ None
 a_number_has_no_zero_in_front = refl

@@ -1,5 +1,5 @@
 // Each kind of fault on each text that has it, where there is memory enough.
-use crate::test_helpers::repeated;
+use crate::test_helpers::{repeated, vertices};
 use crate::{TextFault, TextKind, read_graph, read_rule, read_rules, read_script};
 use std::alloc::{AllocError, Global};
 use std::process::Abort;
@@ -35,6 +35,31 @@ fn graph_faults(rt: HostRuntime) {
             TextKind::DuplicateEdge,
         ),
         (b"vertex a\nvertex b\x0b\n", 2, TextKind::BadName),
+    ];
+    for (text, line, kind) in rows {
+        let fault = read_graph(rt.alloc(), text).err();
+        assert!(rt; fault == Some(TextFault::At { line, kind }));
+    }
+}
+
+#[test]
+fn version_faults(rt: HostRuntime) {
+    let rows: [(&[u8], usize, TextKind); 11] = [
+        (b"version 3\n", 1, TextKind::BadNumber),
+        (b"version 01\n", 1, TextKind::BadNumber),
+        (b"version two\n", 1, TextKind::BadNumber),
+        (b"version\n", 1, TextKind::WordCount),
+        (b"version 3 2\n", 1, TextKind::WordCount),
+        (b"vertex a\nversion 2\n", 2, TextKind::BadWord),
+        (b"version 1\nversion\n", 2, TextKind::BadWord),
+        (b"# x\n\nversion 2\nversion 2\n", 4, TextKind::BadWord),
+        (b"version 1\nvertex a\nedge a a a\n", 3, TextKind::BadRights),
+        (
+            b"vertex a\nvertex b\nvertex c\nedge a b t\nedge b c da\n",
+            5,
+            TextKind::BadRights,
+        ),
+        (b"version 2\nedge a b aa\n", 2, TextKind::BadRights),
     ];
     for (text, line, kind) in rows {
         let fault = read_graph(rt.alloc(), text).err();
@@ -123,37 +148,33 @@ fn event_faults(rt: HostRuntime) {
     }
 }
 
-// The text with lines of a number each behind it.
-fn numbered(alloc: Global, front: &str, count: usize) -> Result<String, AllocError> {
-    let mut text = String::new(alloc);
-    for n in 0..count {
-        let line = format!(in alloc; "{front}{n}\n")?;
-        text.push_str(line.as_str())?;
-    }
-    Ok(text)
+// That a text of this front has room for so many vertices, and for no more of them.
+fn room(
+    rt: &impl Abort,
+    alloc: Global,
+    front: &str,
+    most: usize,
+    line: usize,
+) -> Result<(), AllocError> {
+    let mut text = vertices(alloc, front, most)?;
+    assert!(rt; read_graph(alloc, text.as_bytes()).is_ok());
+    text.push_str("vertex more\n")?;
+    let many = read_graph(alloc, text.as_bytes()).err();
+    let kind = TextKind::TooManyVertices;
+    assert!(rt; many == Some(TextFault::At { line, kind }));
+    let mut text = vertices(alloc, front, most)?;
+    text.push_str("vertex v0\n")?;
+    let twice = read_graph(alloc, text.as_bytes()).err();
+    let kind = TextKind::DuplicateVertex;
+    assert!(rt; twice == Some(TextFault::At { line, kind }));
+    Ok(())
 }
 
 #[test]
 fn most_vertices(rt: HostRuntime) -> Result<(), Fail> {
-    let mut text = numbered(rt.alloc(), "vertex v", 1024)?;
-    assert!(rt; read_graph(rt.alloc(), text.as_bytes()).is_ok());
-    text.push_str("vertex v0\n")?;
-    let twice = read_graph(rt.alloc(), text.as_bytes()).err();
-    assert!(rt;
-        twice
-            == Some(TextFault::At {
-                line: 1025,
-                kind: TextKind::DuplicateVertex
-            })
-    );
-    let more = numbered(rt.alloc(), "vertex v", 1025)?;
-    let many = read_graph(rt.alloc(), more.as_bytes()).err();
-    assert!(rt;
-        many == Some(TextFault::At {
-            line: 1025,
-            kind: TextKind::TooManyVertices
-        })
-    );
+    room(&rt, rt.alloc(), "", 1024, 1025)?;
+    room(&rt, rt.alloc(), "version 1\n", 1024, 1026)?;
+    room(&rt, rt.alloc(), "version 2\n", 4096, 4098)?;
     Ok(())
 }
 

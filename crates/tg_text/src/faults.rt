@@ -14,11 +14,11 @@ pub enum TextKind {
     BadNumber,
     /// A word for a name is no name.
     BadName,
-    /// A word for rights writes none; for an edge also the empty set.
+    /// A word for rights writes none; for an edge also the empty set, and in version 1 `a` and `d`.
     BadRights,
     /// The vertex was named by an earlier line.
     DuplicateVertex,
-    /// `MOST_VERTICES` vertices are there already.
+    /// `MOST_VERTICES` vertices are there already, in version 1 `MOST_VERTICES_OF_ONE`.
     TooManyVertices,
     /// A source or target is named by no earlier line.
     UnknownVertex,

@@ -2,22 +2,24 @@
 ghost use Rattle.std.specs.Prelude.{⊤, ◌≡◌, ◌<◌, false};
 ghost use Rattle.tg_graph.specs.Sets.{IsNamed, is_empty_set};
 ghost use Rattle.tg_graph.specs.GraphOf.{graph_of};
-ghost use Rattle.tg_graph.specs.Graphs.{ProtectionGraph};
 ghost use Rattle.tg_text.specs.Lines.{words_of};
 ghost use Rattle.tg_text.specs.Reading.{Makes, Reads};
-ghost use Rattle.tg_text.specs.GraphText.{vertex_item, edge_item, graph_item, graph_text, with_new_vertex, with_new_edge};
+ghost use Rattle.tg_text.specs.Versions.{version_of};
+ghost use Rattle.tg_text.specs.GraphText.{GraphSoFar, version_item, vertex_item, edge_item, graph_item, graph_text, with_new_vertex, with_new_edge};
 
 use crate::faults::{LineFault, TextFault, TextKind};
 use crate::lines::cut_word;
 use crate::reading::{Items, read_lines};
-use crate::words::{edge_rights_at, name_at, one_word, three_words};
+use crate::versions::{LAST_VERSION, Version};
+use crate::words::{edge_rights_at, header_number, name_at, one_word, three_words};
 use std::alloc::Global;
-use tg_graph::{EdgeFault, Graph, MOST_VERTICES, Name, Rights, VertexFault};
+use tg_graph::{EdgeFault, Graph, Name, Rights, VertexFault};
 
-fn add_vertex(graph: &mut Graph, name: Name) -> Result<(), LineFault>
-    ensures { Makes (with_new_vertex (graph_of graph.old) name) result (graph_of graph.new) }
+fn add_vertex(graph: &mut Graph, version: Version, name: Name) -> Result<(), LineFault>
+    ensures { Makes (with_new_vertex version (graph_of graph.old) name) result
+        (graph_of graph.new) }
 {
-    if graph.len() >= MOST_VERTICES && !graph.knows(name) {
+    if graph.len() >= version.most_vertices() && !graph.knows(name) {
         return Err(LineFault::Kind(TextKind::TooManyVertices));
     }
     match graph.add_vertex(name) {
@@ -42,67 +44,106 @@ fn add_edge(graph: &mut Graph, x: Name, y: Name, rights: Rights) -> Result<(), L
 }
 
 #[tactic(auto, unfolding(crate::specs::GraphText::vertex_item))]
-fn add_vertex_line(graph: &mut Graph, words: &[u8]) -> Result<(), LineFault>
-    ensures { Makes (vertex_item (graph_of graph.old) (words_of words.now)) result
+fn add_vertex_line(graph: &mut Graph, version: Version, words: &[u8]) -> Result<(), LineFault>
+    ensures { Makes (vertex_item version (graph_of graph.old) (words_of words.now)) result
         (graph_of graph.new) }
 {
     let word = one_word(words)?;
     let name = name_at(word)?;
-    add_vertex(graph, name)?;
+    add_vertex(graph, version, name)?;
     Ok(())
 }
 
 #[tactic(auto, unfolding(crate::specs::GraphText::edge_item))]
-fn add_edge_line(graph: &mut Graph, words: &[u8]) -> Result<(), LineFault>
-    ensures { Makes (edge_item (graph_of graph.old) (words_of words.now)) result
+fn add_edge_line(graph: &mut Graph, version: Version, words: &[u8]) -> Result<(), LineFault>
+    ensures { Makes (edge_item version (graph_of graph.old) (words_of words.now)) result
         (graph_of graph.new) }
 {
     let (source, target, letters) = three_words(words)?;
     let x = name_at(source)?;
     let y = name_at(target)?;
-    let rights = edge_rights_at(letters)?;
+    let rights = edge_rights_at(version, letters)?;
     add_edge(graph, x, y, rights)?;
     Ok(())
 }
 
-// Adds what the words of a line that is not skipped say.
-#[tactic(auto, unfolding(crate::specs::GraphText::graph_item))]
-fn add_item(graph: &mut Graph, words: &[u8]) -> Result<(), LineFault>
-    ensures { Makes (graph_item (graph_of graph.old) (words_of words.now)) result
-        (graph_of graph.new) }
-{
-    match cut_word(words) {
-        Some((word, rest)) if word == b"vertex".as_slice() => add_vertex_line(graph, rest)?,
-        Some((word, rest)) if word == b"edge".as_slice() => add_edge_line(graph, rest)?,
-        _ => return Err(LineFault::Kind(TextKind::BadWord)),
-    }
-    Ok(())
+// What the lines of a text make: the version with which it begins, once a line was read, and the
+// graph.
+#[derive(Drop)]
+pub(crate) struct GraphItems {
+    begun: Option<Version>,
+    graph: Graph,
 }
 
-impl Items for Graph {
-    ghost Made = { ProtectionGraph };
+// The version of a text that begins with this one.
+fn version_of(begun: Option<Version>) -> Version
+    ensures { result ≡ version_of begun }
+{
+    match begun {
+        Some(version) => version,
+        None => Version::One,
+    }
+}
 
-    ghost made = { graph_of };
+// The version that the words of a line name: the first line may name one, and no other.
+fn version_item(begun: Option<Version>, words: &[u8]) -> Result<Version, TextKind>
+    ensures { result ≡ version_item begun (words_of words.now) }
+{
+    if begun.is_some() {
+        return Err(TextKind::BadWord);
+    }
+    let number = header_number(b"version", LAST_VERSION, words)?;
+    Ok(Version::numbered(number))
+}
+
+impl Items for GraphItems {
+    ghost Made = { GraphSoFar };
+
+    ghost made = { λ items. (items.begun, graph_of items.graph) };
 
     ghost item = { λ _. graph_item };
 
     ghost IsSound = { λ _. ⊤ };
 
+    #[tactic(auto, unfolding(crate::specs::GraphText::graph_item))]
     fn add(&mut self, _line: usize, words: &[u8]) -> Result<(), LineFault> {
-        add_item(self, words)
+        let Some((word, rest)) = cut_word(words) else {
+            return Err(LineFault::Kind(TextKind::BadWord));
+        };
+        let version = version_of(self.begun);
+        if word == b"vertex".as_slice() {
+            add_vertex_line(&mut self.graph, version, rest)?;
+            self.begun = Some(version);
+            return Ok(());
+        }
+        if word == b"edge".as_slice() {
+            add_edge_line(&mut self.graph, version, rest)?;
+            self.begun = Some(version);
+            return Ok(());
+        }
+        self.begun = Some(version_item(self.begun, words)?);
+        Ok(())
     }
 }
 
 #[tactic(auto, unfolding(crate::specs::GraphText::graph_text))]
 /// The graph of a text, its vertices in the order of their lines.
 ///
+/// The first line that is not skipped may be `version 1` or `version 2`; a text without it has
+/// version 1, which keeps the letters `t`, `g`, `r`, `w` and `e` and `MOST_VERTICES_OF_ONE`
+/// vertices. Version 2 has all letters and `MOST_VERTICES` vertices.
+///
 /// `At` names the first faulty line, and the first of these that it has: `LineTooLong`, `BadWord`,
-/// `WordCount`, `BadName`, `BadRights`, `DuplicateVertex`, `TooManyVertices`, `UnknownVertex`,
-/// `DuplicateEdge`. `Memory` is answered where a growth was refused, whatever stands further on.
+/// `WordCount`, `BadNumber`, `BadName`, `BadRights`, `DuplicateVertex`, `TooManyVertices`,
+/// `UnknownVertex`, `DuplicateEdge`. `Memory` is answered where a growth was refused, whatever
+/// stands further on.
 pub fn read_graph(alloc: Global, text: &[u8]) -> Result<Graph, TextFault>
     ensures { Reads graph_of result (graph_text text.now) }
 {
-    let mut graph = Graph::new(alloc);
-    read_lines(&mut graph, text)?;
-    Ok(graph)
+    let mut items = GraphItems {
+        begun: None,
+        graph: Graph::new(alloc),
+    };
+    read_lines(&mut items, text)?;
+    Ok(items.graph)
 }

@@ -6,5 +6,8 @@
 /// How many bytes a line may have, its line feed not counted.
 pub const MOST_LINE_BYTES: usize = 256;
 
+/// How many vertices a graph's text of version 1 may have.
+pub const MOST_VERTICES_OF_ONE: usize = 1024;
+
 /// How many rules or events a text may have.
 pub const MOST_ENTRIES: usize = 65536;

@@ -11,16 +11,18 @@ use tg_graph::{Graph, Reply};
 
 const GRAPH: &[u8] = b"vertex a\nvertex b\nedge a b tg\n";
 
+const LATER_GRAPH: &[u8] = b"version 2\nvertex a\nvertex b\nedge a b ad\n";
+
 const RULE: &[u8] = b"create a c r";
 
 const SCRIPT: &[u8] = b"seats 1\ncells 1\n1 begin\n1 commit\n";
 
-fn graph(rt: &impl Abort, alloc: Global) -> Result<Graph, TextFault> {
-    match read_graph(alloc, GRAPH) {
+fn graph(rt: &impl Abort, alloc: Global, text: &[u8]) -> Result<Graph, TextFault> {
+    match read_graph(alloc, text) {
         Ok(graph) => Ok(graph),
         Err(fault) => {
             assert!(rt; fault == TextFault::Memory);
-            read_graph(alloc, GRAPH)
+            read_graph(alloc, text)
         }
     }
 }
@@ -34,7 +36,10 @@ fn written(alloc: Global, graph: &Graph) -> Result<Vec<u8>, AllocError> {
 
 #[test]
 fn refused_graph(rt: HostRuntime) -> Result<(), Fail> {
-    let graph = graph(&rt, rt.alloc())?;
+    let later = graph(&rt, rt.alloc(), LATER_GRAPH)?;
+    let text = written(rt.alloc(), &later)?;
+    assert!(rt; text.as_slice() == LATER_GRAPH);
+    let graph = graph(&rt, rt.alloc(), GRAPH)?;
     let text = written(rt.alloc(), &graph)?;
     assert!(rt; text.as_slice() == GRAPH);
     let names = match names_in_order(rt.alloc(), &graph) {

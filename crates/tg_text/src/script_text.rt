@@ -5,14 +5,14 @@ ghost use Rattle.tg_text.specs.declared.script_text.ScriptLine.{ScriptLine};
 ghost use Rattle.tg_text.specs.Limits.{most_entries};
 ghost use Rattle.tg_text.specs.Lines.{words_of};
 ghost use Rattle.tg_text.specs.Reading.{Makes, Reads, with_item};
-ghost use Rattle.tg_text.specs.ScriptText.{right_and_names, act_alone, act_of_words, seated, event_of_words, event_item, header_number, script_item, script_text, script_of, IsNamedAct, AreNamedEvents, IsWithinLimits};
+ghost use Rattle.tg_text.specs.ScriptText.{right_and_names, act_alone, act_of_words, seated, event_of_words, event_item, script_item, script_text, script_of, IsNamedAct, AreNamedEvents, IsWithinLimits};
 
 use crate::faults::{LineFault, TextFault, TextKind};
 use crate::limits::MOST_ENTRIES;
 use crate::lines::cut_word;
 use crate::reading::{Items, read_lines};
 use crate::rule_text::rule_of_words;
-use crate::words::{name_at, no_words, number_up_to, one_word, right_at, three_words};
+use crate::words::{header_number, name_at, no_words, number_up_to, right_at, three_words};
 use std::alloc::Global;
 use tg_graph::{Act, MOST_CELLS, MOST_SEATS, Name, Right, Step};
 
@@ -173,20 +173,6 @@ fn add_event(
             Ok(())
         },
         Err(kind) => Err(LineFault::Kind(kind)),
-    }
-}
-
-// The number in a header line, whose first word is the keyword.
-#[tactic(auto, unfolding(crate::specs::ScriptText::header_number))]
-fn header_number(keyword: &[u8], limit: u32, bytes: &[u8]) -> Result<u32, TextKind>
-    ensures { result ≡ header_number keyword.now limit (words_of bytes.now) }
-{
-    match cut_word(bytes) {
-        Some((word, rest)) if word == keyword => {
-            let number = one_word(rest)?;
-            number_up_to(limit, number)
-        },
-        _ => Err(TextKind::BadWord),
     }
 }
 

@@ -8,7 +8,7 @@ use std::alloc::{AllocError, Global};
 use tg_graph::{Name, Refusal, Reply, Right, Rights, Rule};
 
 /// As many bytes as the line of a rule has at most.
-pub const LONGEST_RULE: usize = 62;
+pub const LONGEST_RULE: usize = 64;
 
 /// As many bytes as the text of a reply has at most.
 pub const LONGEST_REPLY: usize = 32;
@@ -20,7 +20,7 @@ pub const LONGEST_NUMBER: usize = 20;
 const LONGEST_NAME: usize = 17;
 
 // As many bytes as a set of rights has at most, with the space before it.
-const LONGEST_RIGHTS: usize = 6;
+const LONGEST_RIGHTS: usize = 8;
 
 // As many bytes as the words of a refusal have at most, with the space before them.
 const LONGEST_REFUSAL: usize = 25;
@@ -70,11 +70,7 @@ pub(crate) fn put_rights(text: &mut Vec<u8>, rights: Rights)
 {
     text.push_reserved(b' ');
     let start = text.len();
-    put_letters(
-        text,
-        rights,
-        &[Right::T, Right::G, Right::R, Right::W, Right::E],
-    );
+    put_letters(text, rights, &Right::ALL);
     if text.len() == start {
         text.push_reserved(b'-');
     }

@@ -15,6 +15,17 @@ pub(crate) fn rules(rights: Rights) -> Result<[Rule; 4], NameFault> {
     ])
 }
 
+/// The front, and then so many lines of vertices, each of another name.
+pub(crate) fn vertices(alloc: Global, front: &str, count: usize) -> Result<String, AllocError> {
+    let mut text = String::new(alloc);
+    text.push_str(front)?;
+    for n in 0..count {
+        let line = format!(in alloc; "vertex v{n}\n")?;
+        text.push_str(line.as_str())?;
+    }
+    Ok(text)
+}
+
 /// The front, and then a line so many times.
 pub(crate) fn repeated(
     alloc: Global,

@@ -68,6 +68,9 @@ fn each_rule(rt: HostRuntime) -> Result<(), Fail> {
     assert!(rt; read_rule(b" grant\ta b  c rw") == Ok(grant));
     assert!(rt; read_rule(b"create a b rw") == Ok(create));
     assert!(rt; read_rule(b"remove a b wr ") == Ok(remove));
+    let ad = Rights::of(Right::A).union(Rights::of(Right::D));
+    let [take, ..] = rules(ad)?;
+    assert!(rt; read_rule(b"take a b c da") == Ok(take));
     Ok(())
 }
 
@@ -153,6 +156,12 @@ fn acts_with_a_question(rt: HostRuntime) -> Result<(), Fail> {
         y,
     };
     acts(&rt, rt.alloc(), b"1 share w a b", Act::Stage(share))?;
+    let holds = Step::Holds {
+        right: Right::D,
+        x,
+        y,
+    };
+    acts(&rt, rt.alloc(), b"1 holds d a b", Act::Stage(holds))?;
     Ok(())
 }
 

@@ -2,12 +2,13 @@
 ghost use Rattle.std.specs.Prelude.{◌≡◌, ◌<◌, ◌≤◌, ◌∷◌, [], ◌+◌, ◌*◌, length, IfOk, MatchResult, Ok, Err};
 ghost use Rattle.tg_graph.specs.Sets.{IsNamed};
 ghost use Rattle.tg_text.specs.Lines.{words_of};
-ghost use Rattle.tg_text.specs.Words.{no_words, one_word, three_words, four_words, name_at, rights_at, right_at, number_up_to, number_of, with_digits, is_digit};
+ghost use Rattle.tg_text.specs.Words.{no_words, one_word, three_words, four_words, name_at, rights_at, right_at, number_up_to, number_of, with_digits, is_digit, header_number};
 ghost use Rattle.tg_text.specs.GraphText.{edge_rights_at};
 ghost use Rattle.tg_text.specs.Reading.{Sees};
 
 use crate::faults::TextKind;
 use crate::lines::cut_word;
+use crate::versions::Version;
 use bitflags::Flags;
 use tg_graph::{Name, NameFault, Right, Rights};
 
@@ -80,12 +81,12 @@ pub(crate) fn rights_at(word: &[u8]) -> Result<Rights, TextKind>
 }
 
 #[tactic(auto, unfolding(crate::specs::GraphText::edge_rights_at))]
-pub(crate) fn edge_rights_at(word: &[u8]) -> Result<Rights, TextKind>
-    ensures value { result ≡ edge_rights_at word.now }
+pub(crate) fn edge_rights_at(version: Version, word: &[u8]) -> Result<Rights, TextKind>
+    ensures value { result ≡ edge_rights_at version word.now }
     ensures named { IfOk result IsNamed }
 {
     let rights = rights_at(word)?;
-    if rights.is_empty() {
+    if rights.is_empty() || !version.has_letters(rights) {
         return Err(TextKind::BadRights);
     }
     Ok(rights)
@@ -140,5 +141,19 @@ pub(crate) fn number_up_to(limit: u32, word: &[u8]) -> Result<u32, TextKind>
     match number_of(word) {
         Some(number) if number <= limit => Ok(number),
         _ => Err(TextKind::BadNumber),
+    }
+}
+
+// The number in a header line, whose first word is the keyword.
+#[tactic(auto, unfolding(crate::specs::Words::header_number))]
+pub(crate) fn header_number(keyword: &[u8], limit: u32, bytes: &[u8]) -> Result<u32, TextKind>
+    ensures { result ≡ header_number keyword.now limit (words_of bytes.now) }
+{
+    match cut_word(bytes) {
+        Some((word, rest)) if word == keyword => {
+            let number = one_word(rest)?;
+            number_up_to(limit, number)
+        },
+        _ => Err(TextKind::BadWord),
     }
 }

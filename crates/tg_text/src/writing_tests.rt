@@ -1,5 +1,5 @@
 // What is written, where there is memory enough.
-use crate::test_helpers::rules;
+use crate::test_helpers::{rules, vertices};
 use crate::{
     append_number, append_reply, append_rule, names_in_order, read_graph, write_graph, write_reply,
     write_rule,
@@ -91,15 +91,55 @@ fn rules_without_rights(rt: HostRuntime) -> Result<(), Fail> {
     written(&rt, rt.alloc(), r.difference(r), lines)
 }
 
+// The version stands in front exactly where version 1 can't have the graph.
 #[test]
-fn a_canonical_text(rt: HostRuntime) -> Result<(), Fail> {
-    let graph = read_graph(
-        rt.alloc(),
-        b"vertex b\nvertex a\nedge b a gt\nedge a b ewrgt\n",
-    )?;
-    let text = write_graph(rt.alloc(), &graph)?;
-    let wanted = b"vertex a\nvertex b\nedge a b tgrwe\nedge b a tg\n";
-    assert!(rt; text.as_slice() == wanted.as_slice());
+fn canonical_texts(rt: HostRuntime) -> Result<(), Fail> {
+    let rows: [(&[u8], &[u8]); 6] = [
+        (
+            b"vertex b\nvertex a\nedge b a gt\nedge a b ewrgt\n",
+            b"vertex a\nvertex b\nedge a b tgrwe\nedge b a tg\n",
+        ),
+        (
+            b"version 2\nvertex a\nvertex b\nvertex c\nedge a b t\nedge b c da\n",
+            b"version 2\nvertex a\nvertex b\nvertex c\nedge a b t\nedge b c ad\n",
+        ),
+        (
+            b"# x\n\n version\t2\r\nvertex a\nedge a a daewrgt",
+            b"version 2\nvertex a\nedge a a tgrwead\n",
+        ),
+        (
+            b"version 2\nvertex a\nedge a a a\n",
+            b"version 2\nvertex a\nedge a a a\n",
+        ),
+        (b"version 2\nvertex a\n", b"vertex a\n"),
+        (
+            b"#\nversion 1\nvertex a\nedge a a e\n",
+            b"vertex a\nedge a a e\n",
+        ),
+    ];
+    for (text, wanted) in rows {
+        let graph = read_graph(rt.alloc(), text)?;
+        let written = write_graph(rt.alloc(), &graph)?;
+        assert!(rt; written.as_slice() == wanted);
+    }
+    Ok(())
+}
+
+// That a graph of so many vertices is written with this front, and read as many again.
+fn many(rt: &impl Abort, alloc: Global, count: usize, front: &[u8]) -> Result<(), Fail> {
+    let text = vertices(alloc, "version 2\n", count)?;
+    let graph = read_graph(alloc, text.as_bytes())?;
+    let written = write_graph(alloc, &graph)?;
+    assert!(rt; written.starts_with(front));
+    assert!(rt; read_graph(alloc, &written)?.len() == count);
+    Ok(())
+}
+
+#[test]
+fn many_vertices(rt: HostRuntime) -> Result<(), Fail> {
+    many(&rt, rt.alloc(), 1024, b"vertex v0\nvertex v1\nvertex v10\n")?;
+    many(&rt, rt.alloc(), 1025, b"version 2\nvertex v0\nvertex v1\n")?;
+    many(&rt, rt.alloc(), 4096, b"version 2\nvertex v0\nvertex v1\n")?;
     Ok(())
 }
 
