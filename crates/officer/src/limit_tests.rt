@@ -6,146 +6,173 @@ use std::process::Abort;
 use std::test::Fail;
 use std::thread::Threads;
 
-// A line so many times.
-fn repeated(alloc: Global, line: &[u8], count: usize) -> Result<Vec<u8>, AllocError> {
-    let mut text = Vec::new(alloc);
+// A first line, and another so many times.
+fn repeated(alloc: Global, first: &[u8], line: &[u8], count: usize) -> Result<Vec<u8>, AllocError> {
+    let mut text = Vec::from_slice(alloc, first)?;
     for _ in 0..count {
         text.extend_from_slice(line)?;
     }
     Ok(text)
 }
 
-// The lines of so many vertices.
-fn vertices(alloc: Global, count: usize) -> Result<String, AllocError> {
-    let mut text = String::new(alloc);
+// A first line, the lines of so many vertices, and a last line.
+fn vertices(alloc: Global, first: &str, count: usize, last: &str) -> Result<String, AllocError> {
+    let mut text = String::from_str(alloc, first)?;
     for n in 0..count {
         let line = format!(in alloc; "vertex v{n}\n")?;
         text.push_str(line.as_str())?;
     }
+    text.push_str(last)?;
     Ok(text)
 }
 
-fn checks<R: Abort + Threads + Sync + AllocGlobal>(
+// How many lines a report has.
+fn lines_of(report: &[u8]) -> usize {
+    report.iter().filter(|byte| **byte == b'\n').count()
+}
+
+// The report begins so, and has so many lines in all.
+fn begins<R: Abort + Threads + Sync + AllocGlobal>(
     rt: &R,
-    graph: &[u8],
+    command: Command,
+    first: &str,
+    second: &[u8],
     wanted: &[u8],
-    status: u8,
+    lines: usize,
 ) -> Result<(), Fail> {
-    reports(rt, Command::Check, graph, b"", wanted, status)
+    let made = report(rt, rt.alloc(), &command, first.as_bytes(), second)?;
+    assert!(rt; made.status == 0);
+    assert!(rt; made.bytes.starts_with(wanted));
+    assert!(rt; lines_of(&made.bytes) == lines);
+    Ok(())
 }
 
 #[test]
 fn lines_of_hostile_bytes(rt: HostRuntime) -> Result<(), Fail> {
-    checks(
-        &rt,
-        b"vertex a\nedge a",
-        b"refused graph line 2 word-count\n",
-        1,
-    )?;
-    checks(&rt, b"\xff a\n", b"refused graph line 1 bad-word\n", 1)?;
-    checks(&rt, b"vertex a\r\n", b"vertex a\n", 0)?;
+    for (graph, wanted, status) in [
+        (
+            b"\xff a\n".as_slice(),
+            b"refused graph line 1 bad-word\n".as_slice(),
+            1,
+        ),
+        (b"vertex a\r\n", b"vertex a\n", 0),
+    ] {
+        reports(&rt, Command::Check, graph, b"", wanted, status)?;
+    }
     Ok(())
+}
+
+// A text of a graph that is a line repeated so many times has this report.
+fn checks_repeated<R: Abort + Threads + Sync + AllocGlobal>(
+    rt: &R,
+    line: &[u8],
+    count: usize,
+    wanted: &[u8],
+    status: u8,
+) -> Result<(), Fail> {
+    let text = repeated(rt.alloc(), b"", line, count)?;
+    reports(rt, Command::Check, &text, b"", wanted, status)
 }
 
 #[test]
 fn lines_too_long(rt: HostRuntime) -> Result<(), Fail> {
-    let long = repeated(rt.alloc(), b"#", 257)?;
-    checks(&rt, &long, b"refused graph line 1 line-too-long\n", 1)?;
-    let short = repeated(rt.alloc(), b"#", 256)?;
-    checks(&rt, &short, b"", 0)?;
+    let wanted = b"refused graph line 1 line-too-long\n";
+    checks_repeated(&rt, b"#", 257, wanted, 1)?;
+    checks_repeated(&rt, b"#", 256, b"", 0)?;
     Ok(())
+}
+
+// A graph of so many vertices is read.
+fn holds<R: Abort + Threads + Sync + AllocGlobal>(
+    rt: &R,
+    version: &str,
+    count: usize,
+    wanted: &[u8],
+    lines: usize,
+) -> Result<(), Fail> {
+    let text = vertices(rt.alloc(), version, count, "")?;
+    begins(rt, Command::Check, &text, b"", wanted, lines)
+}
+
+// A graph of so many vertices is refused with this line more.
+fn holds_no_more<R: Abort + Threads + Sync + AllocGlobal>(
+    rt: &R,
+    version: &str,
+    count: usize,
+    line: &str,
+    wanted: &[u8],
+) -> Result<(), Fail> {
+    let text = vertices(rt.alloc(), version, count, line)?;
+    reports(rt, Command::Check, text.as_bytes(), b"", wanted, 1)
 }
 
 #[test]
 fn most_vertices(rt: HostRuntime) -> Result<(), Fail> {
-    let mut text = vertices(rt.alloc(), 1024)?;
-    let accepted = report(&rt, rt.alloc(), &Command::Check, text.as_bytes(), b"")?;
-    assert!(rt; accepted.status == 0);
-    text.push_str("vertex v0\n")?;
-    checks(
-        &rt,
-        text.as_bytes(),
-        b"refused graph line 1025 duplicate-vertex\n",
-        1,
-    )?;
-    let more = vertices(rt.alloc(), 1025)?;
-    checks(
-        &rt,
-        more.as_bytes(),
-        b"refused graph line 1025 too-many-vertices\n",
-        1,
-    )?;
+    let least = b"vertex v0\nvertex v1\nvertex v10\n";
+    holds(&rt, "", 1024, least, 1024)?;
+    let twice = b"refused graph line 1025 duplicate-vertex\n";
+    holds_no_more(&rt, "", 1024, "vertex v0\n", twice)?;
+    let more = b"refused graph line 1025 too-many-vertices\n";
+    holds_no_more(&rt, "", 1024, "vertex v1024\n", more)?;
     Ok(())
+}
+
+// A text that begins with this line, and has another so many times after it, has this report.
+fn refuses_repeated<R: Abort + Threads + Sync + AllocGlobal>(
+    rt: &R,
+    command: Command,
+    first: &[u8],
+    line: &[u8],
+    count: usize,
+    wanted: &[u8],
+) -> Result<(), Fail> {
+    let text = repeated(rt.alloc(), first, line, count)?;
+    reports(rt, command, b"", &text, wanted, 1)
 }
 
 #[test]
 fn most_rules(rt: HostRuntime) -> Result<(), Fail> {
-    let rules = repeated(rt.alloc(), b"remove a a r\n", 65537)?;
-    reports(
-        &rt,
-        Command::Apply,
-        b"",
-        &rules,
-        b"refused rules line 65537 too-many\n",
-        1,
-    )?;
-    Ok(())
+    let wanted = b"refused rules line 65537 too-many\n";
+    refuses_repeated(&rt, Command::Apply, b"", b"remove a a r\n", 65537, wanted)
 }
 
 #[test]
 fn most_events(rt: HostRuntime) -> Result<(), Fail> {
-    let mut script = Vec::from_slice(rt.alloc(), b"seats 1\ncells 1\n")?;
-    let events = repeated(rt.alloc(), b"1 begin\n", 65537)?;
-    script.extend_from_slice(&events)?;
-    reports(
-        &rt,
-        Command::Run,
-        b"",
-        &script,
-        b"refused script line 65539 too-many\n",
-        1,
-    )?;
-    Ok(())
+    let header = b"seats 1\ncells 1\n";
+    let wanted = b"refused script line 65539 too-many\n";
+    refuses_repeated(&rt, Command::Run, header, b"1 begin\n", 65537, wanted)
 }
 
-// The last lines of a report.
-fn ends_with<R: Abort>(rt: &R, report: &[u8], wanted: &[u8]) {
-    assert!(rt; report.ends_with(wanted));
+// The report of a script on the empty graph ends so.
+fn ends<R: Abort + Threads + Sync + AllocGlobal>(
+    rt: &R,
+    script: &[u8],
+    wanted: &[u8],
+) -> Result<(), Fail> {
+    let made = report(rt, rt.alloc(), &Command::Run, b"", script)?;
+    assert!(rt; made.bytes.ends_with(wanted));
+    assert!(rt; made.status == 0);
+    Ok(())
 }
 
 #[test]
 fn most_cells(rt: HostRuntime) -> Result<(), Fail> {
-    let mut script = Vec::from_slice(rt.alloc(), b"seats 1\ncells 4096\n")?;
-    let events = repeated(rt.alloc(), b"1 begin\n1 commit\n", 4097)?;
-    script.extend_from_slice(&events)?;
-    let made = report(&rt, rt.alloc(), &Command::Run, b"", &script)?;
-    ends_with(
-        &rt,
-        &made.bytes,
-        b"\n8194 1 done 4095\n8195 1 done\n8196 1 refused journal-full\ngraph\n",
-    );
-    assert!(rt; made.status == 0);
-    Ok(())
+    let header = b"seats 1\ncells 4096\n";
+    let script = repeated(rt.alloc(), header, b"1 begin\n1 commit\n", 4097)?;
+    let wanted = b"\n8194 1 done 4095\n8195 1 done\n8196 1 refused journal-full\ngraph\n";
+    ends(&rt, &script, wanted)
 }
 
 // The lines of the vertices of a full graph, in name order: p first, and v0 to v1022 after it.
 #[test]
 fn a_crowded_session(rt: HostRuntime) -> Result<(), Fail> {
-    let graph = vertices(rt.alloc(), 1023)?;
-    let made = report(
+    let graph = vertices(rt.alloc(), "", 1023, "")?;
+    begins(
         &rt,
-        rt.alloc(),
-        &Command::Run,
-        graph.as_bytes(),
+        Command::Run,
+        &graph,
         b"seats 2\ncells 8\n1 begin\n2 begin\n1 create v0 p -\n2 create v1 q -\n2 create v1 s -\n1 commit\n2 commit\n",
-    )?;
-    assert!(rt; made.status == 0);
-    assert!(rt;
-        made.bytes.starts_with(
-            b"3 1 done\n4 2 done\n5 1 done\n6 2 done\n7 2 refused full\n8 1 done 0\n9 2 refused crowded 0\ngraph\nvertex p\nvertex v0\nvertex v1\nvertex v10\n"
-        )
-    );
-    let lines = made.bytes.iter().filter(|byte| **byte == b'\n').count();
-    assert!(rt; lines == 8 + 1024);
-    Ok(())
+        b"3 1 done\n4 2 done\n5 1 done\n6 2 done\n7 2 refused full\n8 1 done 0\n9 2 refused crowded 0\ngraph\nvertex p\nvertex v0\nvertex v1\nvertex v10\n",
+        8 + 1024,
+    )
 }

@@ -36,6 +36,8 @@ mod table_report_tests;
 #[cfg(test)]
 mod test_reports;
 #[cfg(test)]
+mod test_words;
+#[cfg(test)]
 mod tests;
 mod turns;
 pub mod words;

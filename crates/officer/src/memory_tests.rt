@@ -1,6 +1,7 @@
 // Each test passes whichever one request for memory is refused, which `make refusals` tries. Where a
 // call was refused memory, its second try has it.
 use crate::fetch::{FetchFault, fetch};
+use crate::outcome::Report;
 use crate::race::race;
 use crate::report::report;
 use crate::surroundings_tests::Zeros;
@@ -12,6 +13,19 @@ use std::thread::Threads;
 
 const GRAPH: &[u8] = b"vertex a\nvertex b\nvertex c\nedge a b g\nedge b c r\n";
 
+// The report of a command for two texts, by its second try where the first was refused memory.
+fn made<R: Threads + Sync + AllocGlobal>(
+    rt: &R,
+    command: Command,
+    first: &[u8],
+    second: &[u8],
+) -> Result<Report, AllocError> {
+    if let Ok(made) = report(rt, rt.alloc(), &command, first, second) {
+        return Ok(made);
+    }
+    report(rt, rt.alloc(), &command, first, second)
+}
+
 // The report has these bytes.
 fn reports<R: Abort + Threads + Sync + AllocGlobal>(
     rt: &R,
@@ -19,10 +33,7 @@ fn reports<R: Abort + Threads + Sync + AllocGlobal>(
     second: &[u8],
     wanted: &[u8],
 ) -> Result<(), AllocError> {
-    let made = match report(rt, rt.alloc(), &command, GRAPH, second) {
-        Ok(made) => made,
-        Err(_) => report(rt, rt.alloc(), &command, GRAPH, second)?,
-    };
+    let made = made(rt, command, GRAPH, second)?;
     assert!(rt; made.bytes.as_slice() == wanted);
     Ok(())
 }
@@ -57,12 +68,10 @@ fn refused_rules(rt: HostRuntime) -> Result<(), Fail> {
 #[test]
 fn refused_cases(rt: HostRuntime) -> Result<(), Fail> {
     let text = b"vertex a\nrules\ncreate a b r\ntake a b b r\n";
-    let made = match report(&rt, rt.alloc(), &Command::Case, text, b"") {
-        Ok(made) => made,
-        Err(AllocError) => report(&rt, rt.alloc(), &Command::Case, text, b"")?,
-    };
+    let made = made(&rt, Command::Case, text, b"")?;
     let wanted = b"1 done\n2 refused no-take\ngraph\nvertex a\nvertex b\nedge a b r\n";
-    assert!(rt; made.bytes.as_slice() == wanted.as_slice() && made.status == 1);
+    assert!(rt; made.bytes.as_slice() == wanted.as_slice());
+    assert!(rt; made.status == 1);
     Ok(())
 }
 

@@ -3,7 +3,8 @@ use crate::deliver::{DeliverFault, deliver};
 use crate::fault::{Cause, fault_line};
 use crate::fetch::{FetchFault, MOST_BYTES, fetch};
 use crate::surroundings::{Process, Surroundings, WordsFault};
-use crate::words::{Call, Command, read_words};
+use crate::test_words::{calls_for, no_call};
+use crate::words::{Call, Command};
 use std::alloc::{AllocError, Global};
 use std::io::{Error, ErrorKind, Read, Write};
 use std::process::Abort;
@@ -103,12 +104,23 @@ impl Write for Stuck {
     }
 }
 
+// What the reader gives can be fetched: so many bytes.
+fn gives<R: Read>(rt: &impl Abort, alloc: Global, reader: &mut R, count: usize) {
+    let bytes = fetch(alloc, reader);
+    assert!(rt; bytes.is_ok_and(|bytes| bytes.len() == count));
+}
+
+// What the reader gives is too large to be fetched.
+fn is_too_large<R: Read>(rt: &impl Abort, alloc: Global, reader: &mut R) {
+    let bytes = fetch(alloc, reader);
+    assert!(rt; matches!(bytes, Err(FetchFault::TooLarge)));
+}
+
 #[test]
-fn fetches_all(rt: HostRuntime) -> Result<(), Fail> {
-    let mut text = b"vertex a\n".as_slice();
-    let bytes = fetch(rt.alloc(), &mut text)?;
-    assert!(rt; bytes.as_slice() == b"vertex a\n".as_slice());
-    Ok(())
+fn inputs_of_many_sizes(rt: HostRuntime) {
+    gives(&rt, rt.alloc(), &mut Zeros { left: MOST_BYTES }, 67_108_864);
+    is_too_large(&rt, rt.alloc(), &mut Zeros { left: 67_108_865 });
+    is_too_large(&rt, rt.alloc(), &mut Endless);
 }
 
 #[test]
@@ -117,31 +129,23 @@ fn unreadable(rt: HostRuntime) {
     assert!(rt; matches!(fetched, Err(FetchFault::Unreadable)));
 }
 
-#[test]
-fn too_large(rt: HostRuntime) {
-    let fetched = fetch(rt.alloc(), &mut Endless);
-    assert!(rt; matches!(fetched, Err(FetchFault::TooLarge)));
+// The reader gives this text.
+fn is_read<R: Read>(rt: &impl Abort, alloc: Global, reader: &mut R, text: &[u8]) {
+    let bytes = fetch(alloc, reader);
+    assert!(rt; bytes.is_ok_and(|bytes| bytes.as_slice() == text));
 }
 
 #[test]
-fn as_large_as_may_be(rt: HostRuntime) -> Result<(), Fail> {
-    let bytes = fetch(rt.alloc(), &mut Zeros { left: MOST_BYTES })?;
-    assert!(rt; bytes.len() == 67_108_864);
-    Ok(())
-}
-
-#[test]
-fn one_byte_too_large(rt: HostRuntime) {
-    let fetched = fetch(rt.alloc(), &mut Zeros { left: 67_108_865 });
-    assert!(rt; matches!(fetched, Err(FetchFault::TooLarge)));
-}
-
-#[test]
-fn interrupted_reads(rt: HostRuntime) -> Result<(), Fail> {
+fn fetches_all(rt: HostRuntime) {
     let text = b"vertex a\n".as_slice();
-    let bytes = fetch(rt.alloc(), &mut Interrupted { text, again: false })?;
-    assert!(rt; bytes.as_slice() == text);
-    Ok(())
+    let mut whole = text;
+    is_read(&rt, rt.alloc(), &mut whole, text);
+    is_read(
+        &rt,
+        rt.alloc(),
+        &mut Interrupted { text, again: false },
+        text,
+    );
 }
 
 #[test]
@@ -152,53 +156,51 @@ fn delivers_all(rt: HostRuntime) -> Result<(), Fail> {
     Ok(())
 }
 
-#[test]
-fn cannot_write(rt: HostRuntime) {
-    assert!(rt; deliver(&mut Full { room: 0 }, b"graph\n").is_err());
-    assert!(rt; deliver(&mut Full { room: 3 }, b"graph\n").is_err());
-    assert!(rt; deliver(&mut Full { room: 6 }, b"graph\n").is_ok());
-    assert!(rt; deliver(&mut Stuck, b"graph\n").is_err());
+// Whether a writer takes a report of six bytes.
+pub(crate) fn takes<W: Write>(writer: &mut W) -> bool {
+    deliver(writer, b"graph\n").is_ok()
 }
 
-fn says(rt: &impl Abort, cause: Cause, line: &str, status: u8) {
+#[test]
+fn cannot_write(rt: HostRuntime) {
+    assert!(rt; !takes(&mut Full { room: 0 }));
+    assert!(rt; !takes(&mut Full { room: 3 }));
+    assert!(rt; takes(&mut Full { room: 6 }));
+    assert!(rt; !takes(&mut Stuck));
+}
+
+pub(crate) fn says(rt: &impl Abort, cause: Cause, line: &str, status: u8) {
     assert!(rt; fault_line(cause) == (line, status));
 }
 
 #[test]
 fn fault_lines(rt: HostRuntime) {
-    says(&rt, Cause::Graph, "officer: cannot read the graph", 3);
-    says(
-        &rt,
-        Cause::Second,
-        "officer: cannot read the second file",
-        3,
-    );
-    says(&rt, Cause::TooLarge, "officer: input too large", 3);
-    says(&rt, Cause::Memory, "officer: no memory", 3);
-    says(&rt, Cause::Write, "officer: cannot write", 3);
-    says(&rt, Cause::Words, "officer: bad command line", 2);
-}
-
-fn no_call(rt: &impl Abort, words: &[&str]) {
-    assert!(rt; read_words(words).is_none());
+    for (cause, line, status) in [
+        (Cause::Graph, "officer: cannot read the graph", 3),
+        (Cause::Second, "officer: cannot read the second file", 3),
+        (Cause::TooLarge, "officer: input too large", 3),
+        (Cause::Memory, "officer: no memory", 3),
+        (Cause::Write, "officer: cannot write", 3),
+        (Cause::Words, "officer: bad command line", 2),
+    ] {
+        says(&rt, cause, line, status);
+    }
 }
 
 #[test]
 fn calls(rt: HostRuntime) {
-    assert!(rt; read_words(&[]) == Some(Call::Input));
-    assert!(rt; read_words(&["check", "G"]) == Some(Call::File(Command::Check, "G")));
-    assert!(rt; read_words(&["apply", "G", "R"]) == Some(Call::Files(Command::Apply, "G", "R")));
-    assert!(rt; read_words(&["run", "G", "S"]) == Some(Call::Files(Command::Run, "G", "S")));
     let (right, x, y) = ("r", "a", "c");
-    assert!(rt;
-        read_words(&["share", "G", "r", "a", "c"])
-            == Some(Call::File(Command::Share { right, x, y }, "G"))
-    );
-    assert!(rt;
-        read_words(&["derive", "G", "r", "a", "c"])
-            == Some(Call::File(Command::Derive { right, x, y }, "G"))
-    );
-    assert!(rt; read_words(&["islands", "G"]) == Some(Call::File(Command::Islands, "G")));
+    calls_for(&rt, &[], Call::Input);
+    calls_for(&rt, &["check", "G"], Call::File(Command::Check, "G"));
+    calls_for(&rt, &["islands", "G"], Call::File(Command::Islands, "G"));
+    let rules = Call::Files(Command::Apply, "G", "R");
+    calls_for(&rt, &["apply", "G", "R"], rules);
+    let script = Call::Files(Command::Run, "G", "S");
+    calls_for(&rt, &["run", "G", "S"], script);
+    let share = Call::File(Command::Share { right, x, y }, "G");
+    calls_for(&rt, &["share", "G", "r", "a", "c"], share);
+    let derive = Call::File(Command::Derive { right, x, y }, "G");
+    calls_for(&rt, &["derive", "G", "r", "a", "c"], derive);
 }
 
 #[test]

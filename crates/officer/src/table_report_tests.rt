@@ -1,5 +1,6 @@
 use crate::test_reports::reports;
-use crate::words::{Call, Command, read_words};
+use crate::test_words::{calls_for, no_call};
+use crate::words::{Call, Command};
 use std::test::Fail;
 
 const FIVE: &[u8] =
@@ -7,16 +8,31 @@ const FIVE: &[u8] =
 
 #[test]
 fn the_same_for_all_workers(rt: HostRuntime) -> Result<(), Fail> {
+    let right = "r";
+    let wanted = b"a 00100\nb 00100\nc 00000\nd 10000\ne 10000\n";
     for workers in [1, 2, 16] {
+        reports(&rt, Command::Table { right, workers }, FIVE, b"", wanted, 0)?;
+    }
+    Ok(())
+}
+
+#[test]
+fn rows_in_name_order(rt: HostRuntime) -> Result<(), Fail> {
+    for (right, workers, graph, wanted) in [
+        (
+            "w",
+            4,
+            b"vertex b\nvertex a\nedge b a w\n".as_slice(),
+            b"a 00\nb 10\n".as_slice(),
+        ),
+        ("r", 16, b"", b""),
+    ] {
         reports(
             &rt,
-            Command::Table {
-                right: "r",
-                workers,
-            },
-            FIVE,
+            Command::Table { right, workers },
+            graph,
             b"",
-            b"a 00100\nb 00100\nc 00000\nd 10000\ne 10000\n",
+            wanted,
             0,
         )?;
     }
@@ -24,65 +40,27 @@ fn the_same_for_all_workers(rt: HostRuntime) -> Result<(), Fail> {
 }
 
 #[test]
-fn in_name_order(rt: HostRuntime) -> Result<(), Fail> {
-    let (right, workers) = ("w", 4);
-    reports(
-        &rt,
-        Command::Table { right, workers },
-        b"vertex b\nvertex a\nedge b a w\n",
-        b"",
-        b"a 00\nb 10\n",
-        0,
-    )?;
-    Ok(())
-}
-
-#[test]
-fn nobody(rt: HostRuntime) -> Result<(), Fail> {
-    let (right, workers) = ("r", 16);
-    reports(&rt, Command::Table { right, workers }, b"", b"", b"", 0)?;
-    Ok(())
-}
-
-#[test]
 fn refused_workers(rt: HostRuntime) -> Result<(), Fail> {
-    for workers in [0, 17] {
-        reports(
-            &rt,
-            Command::Table {
-                right: "r",
-                workers,
-            },
-            FIVE,
-            b"",
-            b"refused workers\n",
-            1,
-        )?;
+    for (right, workers, wanted) in [
+        ("r", 0, b"refused workers\n".as_slice()),
+        ("r", 17, b"refused workers\n"),
+        ("x", 0, b"refused bad-right\n"),
+    ] {
+        reports(&rt, Command::Table { right, workers }, FIVE, b"", wanted, 1)?;
     }
-    let (right, workers) = ("x", 0);
-    reports(
-        &rt,
-        Command::Table { right, workers },
-        FIVE,
-        b"",
-        b"refused bad-right\n",
-        1,
-    )?;
     Ok(())
 }
 
 #[test]
 fn words_of_a_table(rt: HostRuntime) {
     let (right, workers) = ("r", 4);
-    let table = Command::Table { right, workers };
-    assert!(rt; read_words(&["table", "g", "r"]) == Some(Call::File(table, "g")));
+    let table = Call::File(Command::Table { right, workers }, "g");
+    calls_for(&rt, &["table", "g", "r"], table);
     let workers = 16;
-    let table = Command::Table { right, workers };
-    assert!(rt;
-        read_words(&["table", "g", "r", "--workers", "0016"]) == Some(Call::File(table, "g"))
-    );
-    assert!(rt; read_words(&["table", "g", "r", "--workers", "00016"]).is_none());
-    assert!(rt; read_words(&["table", "g", "r", "--workers", "x"]).is_none());
-    assert!(rt; read_words(&["table", "g", "r", "--works", "4"]).is_none());
-    assert!(rt; read_words(&["table", "g"]).is_none());
+    let table = Call::File(Command::Table { right, workers }, "g");
+    calls_for(&rt, &["table", "g", "r", "--workers", "0016"], table);
+    no_call(&rt, &["table", "g", "r", "--workers", "00016"]);
+    no_call(&rt, &["table", "g", "r", "--workers", "x"]);
+    no_call(&rt, &["table", "g", "r", "--works", "4"]);
+    no_call(&rt, &["table", "g"]);
 }
