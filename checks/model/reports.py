@@ -103,9 +103,9 @@ def table(text, right, _="--workers", workers=b"4"):
     right = right_in(right)
     if not 1 <= int(workers) <= MOST_WORKERS:
         raise Refused("workers")
-    names, pairs = sorted(graph.names), graph.table(right)
-    rows = (x + " " + "".join("01"[(x, y) in pairs] for y in names) + "\n" for x in names)
-    return "".join(rows), 0
+    names, rows = sorted(graph.names), graph.table(right)
+    lines = (x + " " + "".join("01"[y in rows[x]] for y in names) + "\n" for x in names)
+    return "".join(lines), 0
 
 
 def apply(text, rules_text):
