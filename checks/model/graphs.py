@@ -131,15 +131,12 @@ class Graph:
         return any(right in self.rights(s, y) for s in reached(self.neighbours(), x))
 
     def table(self, right):
-        """For each vertex those over which it can come to have the right."""
-        held, rows = defaultdict(set), {}
+        """Each island, and those over whom its vertices can come to have the right."""
+        held = defaultdict(set)
         for (x, y), rights in self.edges.items():
             if right in rights:
                 held[x].add(y)
-        for island in self.islands():
-            together = set().union(*(held[x] for x in island))
-            rows.update(dict.fromkeys(island, together))
-        return rows
+        return [(island, set().union(*(held[x] for x in island))) for island in self.islands()]
 
     # derivations
 
