@@ -54,7 +54,7 @@ examples: build
 	@tools/from_rbac $(SHOP).json --without 'serviceaccounts deploy/deployer' | diff - $(SHOP).trusted.graph
 	@sed 's/"roleRef"/"role"/' $(SHOP).json | tools/from_rbac 2>&1 | diff - $(SHOP).faulty.out
 	@sed 's/"ServiceAccount", "meta/"Pod", "meta/' $(SHOP).json | tools/from_rbac 2>&1 | diff - $(SHOP).foreign.out
-	@python3 bench/cluster.py 4000 | tools/from_rbac 2>&1 | diff - $(SHOP).too_large.out
+	@python3 bench/cluster.py 8000 | tools/from_rbac 2>&1 | diff - $(SHOP).too_large.out
 	@$(OFFICER) derive $(SHOP).graph r runner payment_key | diff - $(SHOP).runner.out
 	@$(OFFICER) derive $(SHOP).graph r shop_team payment_key | diff - $(SHOP).team.out
 	@$(OFFICER) share $(SHOP).trusted.graph r shop_team payment_key | diff - $(SHOP).trusted.out
