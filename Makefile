@@ -17,7 +17,9 @@ GRAPH = $(FILES).graph
 
 SHOP = examples/web_shop
 KERNEL = examples/microkernel
+TILLS = examples/tills
 PICTURES = examples/pictures
+TILLS_APART = python3 $(TILLS).py --apart
 OPEN_KERNEL = echo 'edge nic_driver log_server g' | cat $(KERNEL).graph -
 LESS_OF_CLUSTER = $(foreach kind,groups secrets pods services events,--without '$(kind) *')
 
@@ -61,6 +63,12 @@ examples: build
 	@$(OFFICER) islands $(KERNEL).graph | diff - $(KERNEL).islands.out
 	@$(OFFICER) share $(KERNEL).graph r nic_driver keys | diff - $(KERNEL).share.out
 	@$(OPEN_KERNEL) | $(OFFICER) derive /dev/stdin r nic_driver keys | diff - $(KERNEL).derive.out
+	@bash -c 'diff <(python3 $(TILLS).py | $(OFFICER) check /dev/stdin) <(python3 $(TILLS).py)'
+	@python3 $(TILLS).py | $(OFFICER) derive /dev/stdin d till_17_04 ledger_17 | diff - $(TILLS).derive.out
+	@$(TILLS_APART) | $(OFFICER) share /dev/stdin d till_17_04 ledger_17 | diff - $(TILLS).share.out
+	@$(TILLS_APART) | $(OFFICER) table /dev/stdin d | grep ' .*1' | cut -d ' ' -f 1 | diff - $(TILLS).deleters.out
+	@$(TILLS_APART) | $(OFFICER) islands /dev/stdin | diff - $(TILLS).islands.out
+	@$(TILLS_APART) | $(OFFICER) derive /dev/stdin a till_17_04 ledger_18 | diff - $(TILLS).append.out
 	$(call each_picture,compare_picture)
 	@echo "Each example prints what is stored beside it."
 
@@ -75,6 +83,7 @@ $(call $(1),web_shop.runner,cat $(SHOP).trusted.graph,--derive r runner payment_
 $(call $(1),web_shop.share,cat $(SHOP).trusted.graph,--share r payment_key)
 $(call $(1),microkernel,cat $(KERNEL).graph)
 $(call $(1),microkernel.derive,$(OPEN_KERNEL),--derive r nic_driver keys)
+$(call $(1),tills.derive,python3 $(TILLS).py,--derive d till_17_04 ledger_17)
 $(call $(1),cluster,python3 bench/cluster.py 840 | tools/from_rbac $(LESS_OF_CLUSTER))
 endef
 
