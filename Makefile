@@ -6,7 +6,7 @@
 # make refusals   the memory tests with each request for memory refused in turn: seconds, once the
 #                 gate or rt test has built the tests
 # make man        the manual page
-# make bench      time and peak memory of each command on heavy inputs
+# make bench      time and peak memory of each command on heavy inputs, of 1,024 and of 4,096 vertices
 # make races      races of 16 seats, each report compared with a small model's
 # make hostile    the program with bad files, outputs and words, and little memory; half a minute
 # make fuzz       the program on random texts for a minute, each answer compared with a small model's
@@ -108,9 +108,11 @@ man:
 
 bench: build
 	@python3 bench/bench.py $(OFFICER)
-	@echo "A cluster of 1,000 objects, from its listing to its islands:"
-	@python3 bench/cluster.py 1000 > crates/officer/out/cluster.json
-	@bash -c 'time -p tools/from_rbac crates/officer/out/cluster.json | $(OFFICER) islands /dev/stdin > /dev/null'
+	@for objects in 1000 7000; do \
+		echo "A cluster of $$objects objects, from its listing to its islands:"; \
+		python3 bench/cluster.py $$objects > crates/officer/out/cluster.json; \
+		bash -c 'time -p tools/from_rbac crates/officer/out/cluster.json | $(OFFICER) islands /dev/stdin > /dev/null'; \
+	done
 
 races: build
 	@python3 checks/races.py $(OFFICER)

@@ -25,7 +25,7 @@ import sys
 import tempfile
 from itertools import product
 
-from model.graphs import LETTERS, Graph
+from model.graphs import FIRST, LETTERS, Graph
 from model.races import fault_of
 from model.texts import read_script
 
@@ -45,10 +45,10 @@ def sparse(count, size, chance):
     return Graph(names, edges)
 
 
-def dense(count):
+def dense(count, letters=LETTERS):
     """A graph in which each vertex has one right over each."""
     pairs = product(range(count), repeat=2)
-    labels = {(f"v{i}", f"v{j}"): LETTERS[(i * 5 + j) % len(LETTERS)] for i, j in pairs}
+    labels = {(f"v{i}", f"v{j}"): letters[(i * 9 + j) % len(letters)] for i, j in pairs}
     return Graph(vertices(count), labels)
 
 
@@ -84,7 +84,8 @@ def races(chance):
     yield "sparse, seldom the same vertices", wide, script(16, 4096, 4000, chance)
     yield "sparse, often the same vertices", narrow, script(16, 4096, 48, chance)
     yield "dense, seldom the same vertices", dense(256), script(16, 4096, 256, chance)
-    yield "dense, often the same vertices", dense(64), script(16, 4096, 24, chance)
+    first = dense(64, FIRST.letters)
+    yield "dense, often the same vertices", first, script(16, 4096, 24, chance)
 
 
 def race(program, graph, script_text):
