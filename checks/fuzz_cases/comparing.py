@@ -191,7 +191,7 @@ def require_race(program, texts):
     script = read_script(texts[1])
     if script.seats == 1:
         require_same("race of one seat", told, program.report(b"run", *texts))
-    require_same("end of a race", told[1:], (b"", 0))
+    require_same("end of a race", told, (told[0], b"", 0))
     law = fault_of(read_graph(texts[0]), script, told[0].decode(errors="replace"))
     if law:
         raise Failure(f"law of a race: {law}", told, None)
