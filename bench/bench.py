@@ -23,7 +23,7 @@ def vertices(count):
 def even(count, edges):
     """As many edges of one right, equally many out of each vertex."""
     step = count * count // edges
-    targets = ((i, j) for i in range(count) for j in range(i % step, count, step))
+    targets = ((i, j) for i in range(count) for j in range(i * step // count, count, step))
     return vertices(count) + "".join(f"edge v{i} v{j} {'tgrwe'[(3 * i + j) % 5]}\n" for i, j in targets)
 
 
