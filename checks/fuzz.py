@@ -8,8 +8,9 @@ versions named where none may be. The kinds of cases:
 
 - `check`, `case`, `apply`, `islands`, `share`, `derive`, `table`, `run`: report and status are the
   model's, which reads docs/TEXTS.md alone; so the first fault, its line and its kind are, too.
-- besides, `check` prints what it printed again; `apply` accepts each rule that `derive` printed,
-  and the right is there then; `share` says of a pair what its cell in the table says.
+- besides, `check` prints again what it printed, and the graph that `apply` printed; `apply`
+  accepts each rule that `derive` printed, and the right is there then; `share` says of a pair what
+  its cell in the table says.
 - `race`: with one seat it prints what `run` prints; else the report obeys the laws of a race.
 - `words`: a command line has one of the forms, or it is a bad one.
 - `limits`: texts with as many vertices, rules, events or commits as there may be, or one more;

@@ -127,10 +127,11 @@ def case_case(program, make):
 
 
 def apply_case(program, make):
-    """`apply`."""
-    graph, rules = make.graph_and_rules()
-    texts = make.spoil.one_of([graph, rules])
-    require_report(program, b"apply", texts)
+    """`apply`, and `check` of the graph that it printed."""
+    text = require_report(program, b"apply", make.spoil.one_of(make.graph_and_rules()))
+    if text is not None:
+        after = text.partition(b"graph\n")[2]
+        require_same("check of apply", program.report(b"check", after), (after, b"", 0))
 
 
 def islands_case(program, make):
