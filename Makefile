@@ -6,7 +6,7 @@
 # make refusals   the memory tests with each request for memory refused in turn: seconds, once the
 #                 gate or rt test has built the tests
 # make man        the manual page
-# make bench      time and peak memory of each command on heavy inputs
+# make bench      time and peak memory of each command on heavy inputs, of 1,024 and of 4,096 vertices
 # make races      races of 16 seats, each report compared with a small model's
 # make hostile    the program with bad files, outputs and words, and little memory; half a minute
 # make fuzz       the program on random texts for a minute, each answer compared with a small model's
@@ -17,7 +17,9 @@ GRAPH = $(FILES).graph
 
 SHOP = examples/web_shop
 KERNEL = examples/microkernel
+TILLS = examples/tills
 PICTURES = examples/pictures
+TILLS_APART = python3 $(TILLS).py --apart
 OPEN_KERNEL = echo 'edge nic_driver log_server g' | cat $(KERNEL).graph -
 LESS_OF_CLUSTER = $(foreach kind,groups secrets pods services events,--without '$(kind) *')
 
@@ -54,13 +56,19 @@ examples: build
 	@tools/from_rbac $(SHOP).json --without 'serviceaccounts deploy/deployer' | diff - $(SHOP).trusted.graph
 	@sed 's/"roleRef"/"role"/' $(SHOP).json | tools/from_rbac 2>&1 | diff - $(SHOP).faulty.out
 	@sed 's/"ServiceAccount", "meta/"Pod", "meta/' $(SHOP).json | tools/from_rbac 2>&1 | diff - $(SHOP).foreign.out
-	@python3 bench/cluster.py 4000 | tools/from_rbac 2>&1 | diff - $(SHOP).too_large.out
+	@python3 bench/cluster.py 8000 | tools/from_rbac 2>&1 | diff - $(SHOP).too_large.out
 	@$(OFFICER) derive $(SHOP).graph r runner payment_key | diff - $(SHOP).runner.out
 	@$(OFFICER) derive $(SHOP).graph r shop_team payment_key | diff - $(SHOP).team.out
 	@$(OFFICER) share $(SHOP).trusted.graph r shop_team payment_key | diff - $(SHOP).trusted.out
 	@$(OFFICER) islands $(KERNEL).graph | diff - $(KERNEL).islands.out
 	@$(OFFICER) share $(KERNEL).graph r nic_driver keys | diff - $(KERNEL).share.out
 	@$(OPEN_KERNEL) | $(OFFICER) derive /dev/stdin r nic_driver keys | diff - $(KERNEL).derive.out
+	@bash -c 'diff <(python3 $(TILLS).py | $(OFFICER) check /dev/stdin) <(python3 $(TILLS).py)'
+	@python3 $(TILLS).py | $(OFFICER) derive /dev/stdin d till_17_04 ledger_17 | diff - $(TILLS).derive.out
+	@$(TILLS_APART) | $(OFFICER) share /dev/stdin d till_17_04 ledger_17 | diff - $(TILLS).share.out
+	@$(TILLS_APART) | $(OFFICER) table /dev/stdin d | grep ' .*1' | cut -d ' ' -f 1 | diff - $(TILLS).deleters.out
+	@$(TILLS_APART) | $(OFFICER) islands /dev/stdin | diff - $(TILLS).islands.out
+	@$(TILLS_APART) | $(OFFICER) derive /dev/stdin a till_17_04 ledger_18 | diff - $(TILLS).append.out
 	$(call each_picture,compare_picture)
 	@echo "Each example prints what is stored beside it."
 
@@ -75,6 +83,7 @@ $(call $(1),web_shop.runner,cat $(SHOP).trusted.graph,--derive r runner payment_
 $(call $(1),web_shop.share,cat $(SHOP).trusted.graph,--share r payment_key)
 $(call $(1),microkernel,cat $(KERNEL).graph)
 $(call $(1),microkernel.derive,$(OPEN_KERNEL),--derive r nic_driver keys)
+$(call $(1),tills.derive,python3 $(TILLS).py,--derive d till_17_04 ledger_17)
 $(call $(1),cluster,python3 bench/cluster.py 840 | tools/from_rbac $(LESS_OF_CLUSTER))
 endef
 
@@ -99,9 +108,11 @@ man:
 
 bench: build
 	@python3 bench/bench.py $(OFFICER)
-	@echo "A cluster of 1,000 objects, from its listing to its islands:"
-	@python3 bench/cluster.py 1000 > crates/officer/out/cluster.json
-	@bash -c 'time -p tools/from_rbac crates/officer/out/cluster.json | $(OFFICER) islands /dev/stdin > /dev/null'
+	@for objects in 1000 7000; do \
+		echo "A cluster of $$objects objects, from its listing to its islands:"; \
+		python3 bench/cluster.py $$objects > crates/officer/out/cluster.json; \
+		bash -c 'time -p tools/from_rbac crates/officer/out/cluster.json | $(OFFICER) islands /dev/stdin > /dev/null'; \
+	done
 
 races: build
 	@python3 checks/races.py $(OFFICER)

@@ -2,6 +2,8 @@
 """Times the program on heavy inputs that it makes itself, and prints seconds and peak memory for each command.
 
 bench.py PROGRAM [--only WORD] [--rounds N]. A time is the best of the rounds. Run it before and after a change.
+Each workload comes twice, on graphs of 1,024 and of 4,096 vertices, the second time with how many times as long it
+took, and for how many times as much. A time of a few milliseconds says little.
 """
 import argparse
 import ctypes
@@ -14,13 +16,15 @@ import time
 
 
 def vertices(count):
-    return "".join(f"vertex v{i}\n" for i in range(count))
+    version = "version 2\n" if count > 1024 else ""
+    return version + "".join(f"vertex v{i}\n" for i in range(count))
 
 
-def dense(count):
-    """Every pair of vertices with one right."""
-    edges = (f"edge v{i} v{j} {'tgrwe'[(3 * i + j) % 5]}\n" for i in range(count) for j in range(count))
-    return vertices(count) + "".join(edges)
+def even(count, edges):
+    """As many edges of one right, equally many out of each vertex."""
+    step = count * count // edges
+    targets = ((i, j) for i in range(count) for j in range(i * step // count, count, step))
+    return vertices(count) + "".join(f"edge v{i} v{j} {'tgrwe'[(3 * i + j) % 5]}\n" for i, j in targets)
 
 
 def sparse(count, edges, seed=11):
@@ -32,9 +36,9 @@ def sparse(count, edges, seed=11):
     return vertices(count) + "".join(f"edge v{i} v{j} {chance.choice(rights)}\n" for i, j in sorted(pairs))
 
 
-def chain(count):
-    """Each vertex may grant to the next one, and the last but one reads the last."""
-    links = "".join(f"edge v{i} v{i + 1} g\n" for i in range(count - 2))
+def chain(count, right):
+    """Each vertex has the right over the next one, and the last but one reads the last."""
+    links = "".join(f"edge v{i} v{i + 1} {right}\n" for i in range(count - 2))
     return vertices(count) + links + f"edge v{count - 2} v{count - 1} r\n"
 
 
@@ -64,16 +68,27 @@ def script(seats, commits, count, seed=17):
     return "\n".join(lines) + "\n"
 
 
-def workloads():
-    """Title, first input, second input or None, and the words; no words: the first input is standard input."""
-    yield "rules on standard input, 65,536", star(1024) + "rules\n" + rules(1024, 65536), None, []
-    yield "check dense, 1,048,576 edges", dense(1024), None, ["check"]
-    yield "apply, 65,536 rules", star(1024), rules(1024, 65536), ["apply"]
-    yield "islands dense", dense(1024), None, ["islands"]
-    yield "share dense", dense(1024), None, ["share", "r", "v0", "v1023"]
-    yield "derive a chain of 1,022 links", chain(1024), None, ["derive", "r", "v0", "v1023"]
+SIZES = (1024, 4096)
+MANY = 1024 * 1024
+
+
+def workloads(count):
+    """Workloads on graphs of so many vertices: what is done, how much of what, and the run.
+
+    A run is the first input, the second or None, and the words; without words the first input is standard input.
+    """
+    edges, last = even(count, MANY), f"v{count - 1}"
+    yield "rules on standard input", 65536, "rules", star(count) + "rules\n" + rules(count, 65536), None, []
+    yield "apply", 65536, "rules", star(count), rules(count, 65536), ["apply"]
+    yield "check", MANY, "edges", edges, None, ["check"]
+    yield "islands", MANY, "edges", edges, None, ["islands"]
+    yield "share", MANY, "edges", edges, None, ["share", "r", "v0", last]
+    yield "derive along a chain", count - 2, "links", chain(count, "g"), None, ["derive", "r", "v0", last]
+    yield "table of one island", count * count, "cells", chain(count, "g"), None, ["table", "r"]
+    yield "table of islands of one vertex", count * count, "cells", chain(count, "r"), None, ["table", "r"]
     for seats in (1, 16, 64):
-        yield f"run, 4,096 commits by {seats} seat{'s' * (seats > 1)}", sparse(1024, 4096), script(seats, 4096, 1024), ["run"]
+        title = f"run by {seats} seat{'s' * (seats > 1)}"
+        yield title, 4096, "commits", sparse(count, 4096), script(seats, 4096, count), ["run"]
 
 
 # The shell leaves the program to this process and ends; only then does the program begin. A process's peak counts
@@ -93,6 +108,20 @@ def measured(argv, given):
     return time.perf_counter() - begun, os.waitstatus_to_exitcode(status), used.ru_maxrss / 1024
 
 
+def time_of(program, rounds, first, second, words):
+    """The best time of a run, its status, and its peak memory."""
+    with tempfile.TemporaryDirectory() as folder:
+        paths = []
+        for name, text in (("first", first), ("second", second)):
+            if text is not None:
+                paths.append(os.path.join(folder, name))
+                with open(paths[-1], "w") as out:
+                    out.write(text)
+        argv = [program] + (words[:1] + paths + words[1:] if words else [])
+        runs = [measured(argv, os.devnull if words else paths[0]) for _ in range(rounds)]
+    return min(run[0] for run in runs), runs[0][1], max(run[2] for run in runs)
+
+
 def main():
     options = argparse.ArgumentParser(description=__doc__)
     options.add_argument("program")
@@ -101,23 +130,18 @@ def main():
     given = options.parse_args()
     program = os.path.abspath(given.program)
     ctypes.CDLL(None).prctl(ADOPT_ORPHANS, 1)
-    for title, first, second, words in workloads():
-        if given.only not in title:
-            continue
-        with tempfile.TemporaryDirectory() as folder:
-            paths = []
-            for name, text in (("first", first), ("second", second)):
-                if text is not None:
-                    paths.append(os.path.join(folder, name))
-                    with open(paths[-1], "w") as out:
-                        out.write(text)
-            argv = [program] + (words[:1] + paths + words[1:] if words else [])
-            runs = [measured(argv, os.devnull if words else paths[0]) for _ in range(given.rounds)]
-        status = runs[0][1]
-        if status == 2:
-            print(f"{title:<40} is no command of this program")
-            continue
-        print(f"{title:<40} {min(r[0] for r in runs):8.3f} s {max(r[2] for r in runs):8.1f} MiB  status {status}", flush=True)
+    for sizes in zip(*map(workloads, SIZES)):
+        base = None
+        for count, (title, amount, unit, *run) in zip(SIZES, sizes):
+            if given.only not in title:
+                continue
+            seconds, status, memory = time_of(program, given.rounds, *run)
+            what = f"{title}, {count:,} vertices, {amount:,} {unit}"
+            line = f"{what:<68} {seconds:8.3f} s {memory:8.1f} MiB  status {status}"
+            if base:
+                line += f"; {seconds / base[0]:.1f} times as long for {amount / base[1]:.0f} times as many {unit}"
+            print(line, flush=True)
+            base = base or (seconds, amount)
 
 
 if __name__ == "__main__":

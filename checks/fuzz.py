@@ -1,17 +1,20 @@
 #!/usr/bin/env python3
 """Runs a program on random texts and words, and compares its answers with a small model's.
 
-fuzz.py PROGRAM [--seconds 60] [--seed N] [--case N] [--jobs N]. Each case makes a graph, and rules
-or a script or words for it. Often it spoils them: bytes are flipped, lines dropped, doubled or
-swapped, words replaced, numbers put at their limits. The kinds of cases:
+fuzz.py PROGRAM [--seconds 60] [--seed N] [--case N] [--jobs N]. Each case makes a graph, its text
+of the one version or the other, and rules or a script or words for it. Often it spoils them: bytes
+are flipped, lines dropped, doubled or swapped, words replaced, numbers put at their limits,
+versions named where none may be. The kinds of cases:
 
 - `check`, `case`, `apply`, `islands`, `share`, `derive`, `table`, `run`: report and status are the
   model's, which reads docs/TEXTS.md alone; so the first fault, its line and its kind are, too.
-- besides, `check` prints what it printed again; `apply` accepts each rule that `derive` printed,
-  and the right is there then; `share` says of a pair what its cell in the table says.
+- besides, `check` prints again what it printed, and the graph that `apply` printed; `apply`
+  accepts each rule that `derive` printed, and the right is there then; `share` says of a pair what
+  its cell in the table says.
 - `race`: with one seat it prints what `run` prints; else the report obeys the laws of a race.
 - `words`: a command line has one of the forms, or it is a bad one.
-- `limits`: texts with as many vertices, rules, events or commits as there may be, or one more.
+- `limits`: texts with as many vertices, rules, events or commits as there may be, or one more;
+  rules and sessions that create more vertices than there may be.
 
 The seed is printed first. A case is known by the seed and its number: --seed and --case repeat it
 alone. What a failed case was run on is kept in a folder that is named. The status is 1 then.

@@ -1,9 +1,9 @@
 #!/usr/bin/env python3
 """Races a program's seats against one another, and checks each report by a small model.
 
-races.py PROGRAM [--rounds N]. In each round the program runs `race` on a sparse and a dense graph,
-with scripts of 16 seats and 4,096 commits: one in which the seats seldom touch the same vertices,
-and one in which they often do. Of each report it checks that
+races.py PROGRAM [--rounds N]. In each round the program runs `race` on sparse and dense graphs of
+up to 4,000 vertices, with scripts of 16 seats and 4,096 commits: one in which the seats seldom
+touch the same vertices, and one in which they often do. Of each report it checks that
 
 - the lines are those of the seats in the order of their numbers, and within a seat in the order of
   its events, and each outcome is one that the event may come to there;
@@ -23,12 +23,13 @@ import random
 import subprocess
 import sys
 import tempfile
+from itertools import product
 
-from model.graphs import LETTERS, Graph
+from model.graphs import FIRST, LETTERS, Graph
 from model.races import fault_of
 from model.texts import read_script
 
-LABELS = ["t", "g", "r", "w", "rw", "tg"]
+LABELS = ["t", "g", "r", "w", "a", "rw", "tg", "ad"]
 
 
 def vertices(count):
@@ -44,10 +45,11 @@ def sparse(count, size, chance):
     return Graph(names, edges)
 
 
-def dense(count):
+def dense(count, letters=LETTERS):
     """A graph in which each vertex has one right over each."""
-    pairs = ((i, j) for i in range(count) for j in range(count))
-    return Graph(vertices(count), {(f"v{i}", f"v{j}"): LETTERS[(i * 7 + j) % 5] for i, j in pairs})
+    pairs = product(range(count), repeat=2)
+    labels = {(f"v{i}", f"v{j}"): letters[(i * 9 + j) % len(letters)] for i, j in pairs}
+    return Graph(vertices(count), labels)
 
 
 def step(number, reach, chance):
@@ -56,11 +58,11 @@ def step(number, reach, chance):
     return chance.choice(
         [
             f"remove {x} {y} w",
-            f"remove {x} {y} e",
-            f"holds r {x} {y}",
+            f"remove {x} {y} ae",
+            f"holds d {x} {y}",
             f"take {x} {y} {z} r",
-            f"grant {x} {y} {z} w",
-            f"create {x} n{number % 64} rw" if number % 97 == 0 else f"holds w {x} {y}",
+            f"grant {x} {y} {z} a",
+            f"create {x} n{number % 64} rad" if number % 97 == 0 else f"holds w {x} {y}",
         ]
     )
 
@@ -78,11 +80,12 @@ def script(seats, commits, reach, chance):
 
 def races(chance):
     """Title, graph and script of each race."""
-    wide, narrow = sparse(1024, 4096, chance), sparse(256, 4096, chance)
-    yield "sparse, seldom the same vertices", wide, script(16, 4096, 1024, chance)
+    wide, narrow = sparse(4000, 16000, chance), sparse(256, 4096, chance)
+    yield "sparse, seldom the same vertices", wide, script(16, 4096, 4000, chance)
     yield "sparse, often the same vertices", narrow, script(16, 4096, 48, chance)
     yield "dense, seldom the same vertices", dense(256), script(16, 4096, 256, chance)
-    yield "dense, often the same vertices", dense(64), script(16, 4096, 24, chance)
+    first = dense(64, FIRST.letters)
+    yield "dense, often the same vertices", first, script(16, 4096, 24, chance)
 
 
 def race(program, graph, script_text):

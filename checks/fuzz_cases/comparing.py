@@ -127,10 +127,11 @@ def case_case(program, make):
 
 
 def apply_case(program, make):
-    """`apply`."""
-    graph, rules = make.graph_and_rules()
-    texts = make.spoil.one_of([graph, rules])
-    require_report(program, b"apply", texts)
+    """`apply`, and `check` of the graph that it printed."""
+    text = require_report(program, b"apply", make.spoil.one_of(make.graph_and_rules()))
+    if text is not None:
+        after = text.partition(b"graph\n")[2]
+        require_same("check of apply", program.report(b"check", after), (after, b"", 0))
 
 
 def islands_case(program, make):
@@ -191,7 +192,7 @@ def require_race(program, texts):
     script = read_script(texts[1])
     if script.seats == 1:
         require_same("race of one seat", told, program.report(b"run", *texts))
-    require_same("end of a race", told[1:], (b"", 0))
+    require_same("end of a race", told, (told[0], b"", 0))
     law = fault_of(read_graph(texts[0]), script, told[0].decode(errors="replace"))
     if law:
         raise Failure(f"law of a race: {law}", told, None)

@@ -2,7 +2,7 @@
 from itertools import product
 
 from fuzz_cases.spoiling import Spoiler
-from model.graphs import LETTERS, Graph
+from model.graphs import FIRST, LETTERS, SECOND, Graph
 from model.texts import MOST_LINES
 
 NAMES = ["a", "b", "c", "d", "e", "f", "_0", "_1", "_2", "v10", "z_9", "_", "abcdefghijklmnop"]
@@ -10,6 +10,17 @@ FRESH = ["n", "m", "p0", "_3", "_10", "q"]
 SPACES = [" ", " ", " ", " ", " ", "  ", "\t", " \r", "\r\t "]
 FILLERS = ["", "#", "# vertex a", "  # x", "\t", " \r"]
 COMMANDS = "check islands apply run race table share derive".split()
+# The line that names each version, and the most vertices that it has room for.
+LINES_OF_VERSIONS = [
+    (b"", FIRST.most_vertices),
+    (b"version 1\n", FIRST.most_vertices),
+    (b"version 2\n", SECOND.most_vertices),
+]
+
+
+def vertex_lines(count):
+    """The lines of so many vertices."""
+    return b"".join(b"vertex v%d\n" % i for i in range(count))
 
 
 class Maker:
@@ -21,11 +32,13 @@ class Maker:
         names = chance.sample(NAMES, chance.randint(0, 8))
         if chance.random() < 0.04:
             names = [f"v{i}" for i in range(chance.randint(20, 60))]
+        elif chance.random() < 0.004:
+            names = [f"v{i}" for i in range(chance.randint(1020, 1030))]
         self.graph = Graph(names)
         self.new_names = chance.sample(NAMES + FRESH, chance.choice([1, 3, 10]))
         self.fresh = chance.choice([0.02, 0.05, 0.25])
         dense = chance.choice([0.05, 0.2, 0.4, 0.8])
-        labels = chance.choice([LETTERS, "tg", "rwe", "tgr", "tgrw", "gr", "tr"])
+        labels = chance.choice([LETTERS, "tg", "rwe", "tgr", "tgrw", "gr", "tr", "tgad", "ad"])
         most = 4 if len(names) > 9 else len(names)
         for x in names:
             for y in chance.sample(names, most):
@@ -44,7 +57,7 @@ class Maker:
         """A word of a set of rights."""
         if self.chance.random() < 0.06:
             return "-"
-        return "".join(self.chance.sample(LETTERS, self.chance.choice([1, 1, 1, 2, 2, 3, 5])))
+        return "".join(self.chance.sample(LETTERS, self.chance.choice([1, 1, 1, 2, 2, 3, 7])))
 
     def right(self):
         """A word of one right."""
@@ -116,7 +129,14 @@ class Maker:
         self.chance.shuffle(names)
         self.chance.shuffle(pairs)
         edges = [["edge", x, y, self.shuffled(self.graph.rights(x, y))] for x, y in pairs]
-        return self.text([["vertex", name] for name in names] + edges)
+        return self.text(self.version() + [["vertex", name] for name in names] + edges)
+
+    def version(self):
+        """The lines that name the version of the graph's text: one, or none for the first."""
+        ways = [[["version", "2"]]]
+        if self.graph.fits(FIRST) or self.chance.random() < 0.05:
+            ways += [[], [], [["version", "1"]]]
+        return self.chance.choice(ways)
 
     def shuffled(self, letters):
         """Letters in any order."""
@@ -198,11 +218,12 @@ class Maker:
     def at_limits(self):
         """A command, its texts and its further words, at the limits of the texts."""
         ways = [self.many_vertices, self.many_rules, self.many_events, self.many_commits]
-        return self.chance.choice([*ways, self.full_sessions])()
+        return self.chance.choice([*ways, self.full_graph, self.full_sessions])()
 
     def many_vertices(self):
         """As many vertices as there may be, one less or one more, and a chain of links."""
-        count = self.chance.choice([1023, 1024, 1024, 1025])
+        version, most = self.chance.choice(LINES_OF_VERSIONS)
+        count = most + self.chance.choice([-1, 0, 0, 1])
         lines = [["vertex", f"v{i}"] for i in range(count)]
         self.chance.shuffle(lines)
         links = self.chance.choice(["t", "g", "tg", "r"])
@@ -211,7 +232,14 @@ class Maker:
         ends = [b"w", b"v0", f"v{count - 1}".encode()]
         further = {"check": [], "islands": [], "share": ends, "derive": ends, "table": [b"w"]}
         command = self.chance.choice(sorted(further))
-        return command.encode(), [self.text(lines)], further[command]
+        return command.encode(), [version + self.text(lines)], further[command]
+
+    def full_graph(self):
+        """Rules that create more vertices than a text of a version has room for."""
+        version, most = self.chance.choice(LINES_OF_VERSIONS)
+        graph = version + vertex_lines(most - self.chance.randint(0, 2))
+        rules = b"".join(b"create v0 n%d a\n" % i for i in range(self.chance.randint(0, 4)))
+        return b"apply", [graph, rules + b"remove v0 n0 a\nremove v0 n1 ad\n"], []
 
     def many_rules(self):
         """As many rules as there may be, or one more."""
@@ -232,8 +260,8 @@ class Maker:
 
     def full_sessions(self):
         """Sessions that create as many vertices as there may be, and crowd one another."""
-        count = self.chance.choice([1021, 1022, 1023, 1024])
-        graph = b"".join(b"vertex v%d\n" % i for i in range(count))
+        version, most = self.chance.choice(LINES_OF_VERSIONS)
+        graph = version + vertex_lines(most - self.chance.randint(0, 3))
         events = [b"1 begin", b"2 begin"]
         creates = [b"%d create v%d n%d r" % (i % 2 + 1, i % 2, i) for i in range(4)]
         events += creates[: self.chance.randint(1, 4)] + [b"2 commit", b"1 commit", b"1 begin"]
@@ -242,7 +270,7 @@ class Maker:
 
     def crowded_race(self):
         """The two texts of a race whose seats create more vertices at once than there may be."""
-        graph = b"".join(b"vertex v%d\n" % i for i in range(1000))
+        graph = b"version 2\n" + vertex_lines(SECOND.most_vertices - 24)
         lines = [b"seats 4", b"cells 200"]
         for seat, i in product(range(1, 5), range(self.chance.randint(5, 30))):
             # (the questions take time, in which others commit)

@@ -3,10 +3,16 @@ import re
 
 # What a word is replaced by: words of every kind that are just right, or just wrong.
 NASTY_WORDS = (
-    "0 1 2 00 01 001 4 64 65 4096 4097 9999 10000 -1 +1 1.0 0x1 - - -- tgrwe tgrwet ewrgt tt q "
-    "r rw T A 9a a-b a.b abcdefghijklmnop abcdefghijklmnopq vertex edge take grant create remove "
-    "holds share begin commit abort seats cells rules rule # #a _ __ _0 zz a b c"
+    "0 1 2 00 01 001 4 64 65 4096 4097 9999 10000 -1 +1 1.0 0x1 - - -- tgrwe tgrwead tgrweada "
+    "daewrgt tt q a d r rw ad T A 9a a-b a.b abcdefghijklmnop abcdefghijklmnopq vertex edge take "
+    "grant create remove holds share begin commit abort seats cells rules rule version # #a _ __ "
+    "_0 zz a b c"
 ).split()
+# Lines that name a version, or seem to.
+VERSION_LINES = (
+    b"version 1|version 2|version 2|version 2\r| version\t2|version 3|version 0|version 02|version"
+    b"|version 1 2|version 2 #|version two|version -|Version 2|versions 2|vertex version|version_2"
+).split(b"|")
 NUMBERS = b"0 1 2 3 00 01 001 63 64 65 99 4095 4096 4097 9999 10000 65536 -1 +1 1x".split()
 NASTY_BYTES = [b"\0", b"\xff", b"\n", b"\r", b"\t", b" ", b"#", b"-", b"\x0b", b"\x0c", b"\x1a"]
 NASTY_BYTES += [b"\xc3\xa9", b"\xef\xbb\xbf", b"A", b"_", b"0", b"~", b"\x7f", b"\x80"]
@@ -29,7 +35,7 @@ class Spoiler:
         if self.chance.random() >= chance:
             return text
         ways = [self.spoil_bytes, self.spoil_lines, self.spoil_words, self.spoil_words]
-        ways += [self.spoil_length, self.spoil_number]
+        ways += [self.spoil_length, self.spoil_number, self.spoil_version]
         for _ in range(self.chance.choice([1, 1, 1, 2, 3])):
             text = self.chance.choice(ways)(text)
         return text
@@ -77,7 +83,7 @@ class Spoiler:
         elif way == 1:
             words.pop(place)
         elif way < 4:
-            words[-1] = self.chance.choice([b"-", b"tt", b"rr", b"tgrwe", b"a", b"T"])
+            words[-1] = self.chance.choice([b"-", b"tt", b"rr", b"tgrwe", b"ad", b"d", b"q", b"T"])
         else:
             words[place] = self.nasty_word()
             words[self.chance.randrange(len(words))] = self.nasty_word()
@@ -92,6 +98,13 @@ class Spoiler:
         # (the first two of a script are those of the header lines)
         place = self.chance.choice(self.chance.choice([places[:2], places]))
         return text[: place.start()] + self.chance.choice(NUMBERS) + text[place.end() :]
+
+    def spoil_version(self, text):
+        """A line that names a version, or seems to, is put in or takes a line's place."""
+        lines = text.split(b"\n")
+        at = self.chance.choice([0, 0, 0, 1, 2, self.chance.randrange(len(lines))])
+        lines[at : at + self.chance.randrange(2)] = [self.chance.choice(VERSION_LINES)]
+        return b"\n".join(lines)
 
     def nasty_word(self):
         """A word that seldom fits."""

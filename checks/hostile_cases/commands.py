@@ -5,6 +5,7 @@ from dataclasses import dataclass
 from functools import cached_property, lru_cache
 
 from hostile_cases.runs import Lawful, Whole
+from model.graphs import MOST_VERTICES
 from model.reports import WITH_SECOND_FILE, race_refusal, report_of
 from model.texts import read_graph, read_script
 from races import dense, script, sparse
@@ -117,30 +118,37 @@ def words_for(command, graph, second=None, further=None):
     return [command, *files, *(further_words(command) if further is None else further)]
 
 
-# commands with their texts
+# commands with their texts: graphs of as many vertices as there may be
 
 
-def star(count):
+def vertices(name="v{}"):
+    """The lines of the vertices, before them the one that names the version."""
+    numbers = range(MOST_VERTICES)
+    return ["version 2\n", *(f"vertex {name.format(number)}\n" for number in numbers)]
+
+
+def star():
     """The text of a graph in which one vertex has take and grant over all."""
-    lines = [f"vertex v{i}\n" for i in range(count)]
-    return "".join(lines + [f"edge v0 v{i} tg\n" for i in range(count)]).encode()
+    edges = (f"edge v0 v{i} tg\n" for i in range(MOST_VERTICES))
+    return "".join([*vertices(), *edges]).encode()
 
 
-def chain(count):
+def chain():
     """The text of a graph of vertices that may grant to the next one; the last holds a right."""
-    lines = [f"vertex v{i}\n" for i in range(count)]
-    lines += (f"edge v{i} v{i + 1} g\n" for i in range(count - 1))
-    return "".join([*lines, f"edge v{count - 1} v0 r\n"]).encode()
+    last = MOST_VERTICES - 1
+    links = (f"edge v{i} v{i + 1} g\n" for i in range(last))
+    return "".join([*vertices(), *links, f"edge v{last} v0 d\n"]).encode()
 
 
-def long_names(count):
+def long_names():
     """The text of a graph without edges whose names are as long as may be."""
-    return "".join(f"vertex v{i:015}\n" for i in range(count)).encode()
+    return "".join(vertices("v{:015}")).encode()
 
 
 def star_rules(count):
     """The text of rules that a star accepts."""
-    return "".join(f"grant v0 v{i % 1023 + 1} v{i * 7 % 1024} tg\n" for i in range(count)).encode()
+    pairs = ((i % (MOST_VERTICES - 1) + 1, i * 7 % MOST_VERTICES) for i in range(count))
+    return "".join(f"grant v0 v{x} v{y} tg\n" for x, y in pairs).encode()
 
 
 @dataclass(frozen=True)
@@ -185,16 +193,16 @@ def large_loads(files):
     """Each command with much to do."""
     chance = random.Random(29)
     many = dense(400).text().encode()
-    wide = sparse(1024, 4096, chance).text().encode()
-    events = script(16, 1024, 256, chance).encode()
+    wide = sparse(MOST_VERTICES, 8192, chance).text().encode()
+    events = script(16, 1024, 1024, chance).encode()
     rules = star_rules(20_000)
-    yield load(files, "large", b"", star(1024) + b"rules\n" + rules)
+    yield load(files, "large", b"", star() + b"rules\n" + rules)
     yield load(files, "large", b"check", many)
-    yield load(files, "large", b"apply", star(1024), rules)
-    yield load(files, "large", b"islands", long_names(1024))
-    yield load(files, "large", b"share", many, further=[b"r", b"v0", b"v399"])
-    yield load(files, "large", b"derive", chain(1024), further=[b"r", b"v0", b"v0"])
-    yield load(files, "large", b"table", star(1024), further=[b"t", b"--workers", b"16"])
+    yield load(files, "large", b"apply", star(), rules)
+    yield load(files, "large", b"islands", long_names())
+    yield load(files, "large", b"share", many, further=[b"a", b"v0", b"v399"])
+    yield load(files, "large", b"derive", chain(), further=[b"d", b"v0", b"v0"])
+    yield load(files, "large", b"table", star(), further=[b"t", b"--workers", b"16"])
     yield load(files, "large", b"run", wide, events)
     yield load(files, "large", b"race", wide, events)
 

@@ -58,6 +58,14 @@ def small_files(files, good, name):
         "with a line of 256 bytes": good + b"#" * 256,
         "with a line of 257 bytes": good + b"#" * 257,
         "with a form feed": good.replace(b"\n", b"\x0c\n", 1),
+        "of version 1": b"version 1\n" + good,
+        "of version 2": b"# (the second)\r\n\tversion 2 \r\n" + good,
+        "of version 3": b"version 3\n" + good,
+        "of no version": b"version\n" + good,
+        "of two versions": b"version 1\nversion 2\n" + good,
+        "with its version behind": good + b"version 2\n",
+        "with append and delete": good.replace(b" tg\n", b" tgad\n"),
+        "of version 2 with append and delete": b"version 2\n" + good.replace(b" tg\n", b" tgad\n"),
     }
     for number, (title, text) in enumerate(texts.items()):
         yield Bad(title, files.text(f"{name}_{number}", text), text=text)

@@ -20,11 +20,11 @@ table G r --workers ''|table G r --workers ' 4'|'check ' G|''|'' ''|'' check G|c
 # What stands behind the graph of a question, good or bad.
 QUESTIONS = """
 q a c|'' a c|rw A z|r '' c|r a z|r z A|r z y|r a \u00e9|R a c|- a c|r abcdefghijklmnop c
-r abcdefghijklmnopq c|r 9a c
+r abcdefghijklmnopq c|r 9a c|a a c|d a c|ad a c|A a c
 """
 # What stands behind the graph of a table, good or bad.
 TABLES = """
-r|q|rw|''|r --workers 0|r --workers 0000|r --workers 1|r --workers 0001|r --workers 16
+r|a|d|ad|q|rw|''|r --workers 0|r --workers 0000|r --workers 1|r --workers 0001|r --workers 16
 r --workers 0016|r --workers 17|r --workers 9999|q --workers 17
 """
 

@@ -3,11 +3,13 @@
 Steps and replies are the words of the texts: a step is ["take", "a", "b", "c", "r"] or
 ["holds", "r", "a", "b"], a reply is "done" or "refused not-held r".
 """
-from collections import deque
+from collections import defaultdict, deque, namedtuple
 from itertools import count
 
-LETTERS = "tgrwe"
-MOST_VERTICES = 1024
+# What a graph text of a version can say: the letters of its rights, and how many vertices.
+Version = namedtuple("Version", "letters most_vertices")
+FIRST, SECOND = VERSIONS = (Version("tgrwe", 1024), Version("tgrwead", 4096))
+LETTERS, MOST_VERTICES = SECOND
 QUESTIONS = ("holds", "share")
 
 
@@ -42,9 +44,15 @@ class Graph:
         """Takes from x rights over y."""
         self.edges[x, y] = self.rights(x, y) - rights
 
+    def fits(self, version):
+        """Whether a text of a version can say the graph."""
+        letters, most = version
+        return len(self.names) <= most and all(map(set(letters).issuperset, self.edges.values()))
+
     def text(self):
-        """The canonical text."""
-        lines = [f"vertex {name}\n" for name in sorted(self.names)]
+        """The canonical text. It names its version only where the first one can't say the graph."""
+        lines = [] if self.fits(FIRST) else ["version 2\n"]
+        lines += (f"vertex {name}\n" for name in sorted(self.names))
         pairs = sorted(pair for pair, rights in self.edges.items() if rights)
         lines += (f"edge {x} {y} {letters_of(self.edges[x, y])}\n" for x, y in pairs)
         return "".join(lines)
@@ -123,15 +131,12 @@ class Graph:
         return any(right in self.rights(s, y) for s in reached(self.neighbours(), x))
 
     def table(self, right):
-        """Whether x can come to have the right over y, for each x and y that are so."""
-        held = [pair for pair, rights in self.edges.items() if right in rights]
-        return {
-            (x, y)
-            for island in map(set, self.islands())
-            for s, y in held
-            if s in island
-            for x in island
-        }
+        """Each island, and those over whom its vertices can come to have the right."""
+        held = defaultdict(set)
+        for (x, y), rights in self.edges.items():
+            if right in rights:
+                held[x].add(y)
+        return [(island, set().union(*(held[x] for x in island))) for island in self.islands()]
 
     # derivations
 
@@ -144,12 +149,13 @@ class Graph:
                 return followed(met_by, vertex)
         return None
 
-    def move(self, q, p, helper, goal):
+    def move(self, q, p, helpers, goal):
         """The rules that move a right from q to its neighbour p; `goal` is the vertex and right."""
         if "t" in self.rights(p, q):
             return [f"take {p} {q} {goal}"]
         if "g" in self.rights(q, p):
             return [f"grant {q} {p} {goal}"]
+        helper = next(helpers)
         hand_over = f"grant {p} {q} {helper} g"
         if "g" not in self.rights(p, q):
             hand_over = f"take {q} {p} {helper} g"
@@ -161,14 +167,9 @@ class Graph:
         chain = self.chain(right, x, y)
         if chain is None:
             return None
-        used, rules = set(self.names), []
-        for q, p in zip(chain, chain[1:]):
-            helper = next(f"_{k}" for k in count() if f"_{k}" not in used)
-            moved = self.move(q, p, helper, f"{y} {right}")
-            if len(moved) > 1:
-                used.add(helper)
-            rules += moved
-        return rules
+        helpers = (name for name in map("_{}".format, count()) if name not in self.names)
+        moves = (self.move(q, p, helpers, f"{y} {right}") for q, p in zip(chain, chain[1:]))
+        return [rule for move in moves for rule in move]
 
 
 def breadth_first(linked, start):

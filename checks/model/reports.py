@@ -103,9 +103,11 @@ def table(text, right, _="--workers", workers=b"4"):
     right = right_in(right)
     if not 1 <= int(workers) <= MOST_WORKERS:
         raise Refused("workers")
-    names, pairs = sorted(graph.names), graph.table(right)
-    rows = (x + " " + "".join("01"[(x, y) in pairs] for y in names) + "\n" for x in names)
-    return "".join(rows), 0
+    names, lines = sorted(graph.names), []
+    for island, over in graph.table(right):
+        digits = "".join("01"[y in over] for y in names)
+        lines += (f"{x} {digits}\n" for x in island)
+    return "".join(sorted(lines)), 0
 
 
 def apply(text, rules_text):

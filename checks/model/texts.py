@@ -2,7 +2,7 @@
 import re
 from dataclasses import dataclass, field
 
-from model.graphs import LETTERS, MOST_VERTICES, Graph
+from model.graphs import FIRST, LETTERS, VERSIONS, Graph
 
 MOST_LINE_BYTES = 256
 MOST_LINES = 65_536
@@ -59,11 +59,11 @@ def is_name(word):
     return NAME.fullmatch(word) is not None
 
 
-def is_rights(word):
-    """Whether a word is a set of rights."""
-    letters = word.decode("latin-1")
-    once = len(set(letters)) == len(letters)
-    return word == b"-" or bool(word) and once and set(letters) <= set(LETTERS)
+def is_rights(word, letters=LETTERS):
+    """Whether a word is a set of rights, of these letters."""
+    written = word.decode("latin-1")
+    once = len(set(written)) == len(written)
+    return word == b"-" or bool(word) and once and set(written) <= set(letters)
 
 
 def is_right(word):
@@ -110,28 +110,42 @@ class Reader:
 
 
 class GraphReader(Reader):
-    """Reads a graph text."""
+    """Reads a graph text, of the first version where no line names one."""
 
     def __init__(self):
         self.graph = Graph()
+        self.version = None
 
     def take_in(self, _, words):
         """The kind of fault of a line, or None."""
+        is_first = self.version is None
+        self.version = self.version or FIRST
         kind, *rest = words
+        if kind == b"version" and is_first:
+            return self.begin(rest)
         if kind == b"vertex":
             return kind_of_form("N", rest) or self.add_vertex(*texts(rest))
         if kind == b"edge":
             fault = kind_of_form("NNS", rest)
-            if fault or rest[2] == b"-":
+            if fault or rest[2] == b"-" or not is_rights(rest[2], self.version.letters):
                 return fault or "bad-rights"
             return self.add_edge(*texts(rest))
         return "bad-word"
+
+    def begin(self, words):
+        """Takes in which version the text is of, or says what is wrong with it."""
+        if len(words) != 1:
+            return "word-count"
+        if words[0] not in (b"1", b"2"):
+            return "bad-number"
+        self.version = VERSIONS[int(words[0]) - 1]
+        return None
 
     def add_vertex(self, name):
         """Adds a vertex, or says what is wrong with it."""
         if name in self.graph.names:
             return "duplicate-vertex"
-        if len(self.graph.names) >= MOST_VERTICES:
+        if len(self.graph.names) >= self.version.most_vertices:
             return "too-many-vertices"
         self.graph.names.add(name)
         return None
