@@ -10,7 +10,7 @@ use Rattle.tg_text.specs.declared.faults.TextKind.{TextKind}
 use Rattle.tg_text.specs.declared.rule_text.RuleLine.{RuleLine}
 use Rattle.tg_graph.specs.Graphs.{ProtectionGraph}
 use Rattle.tg_text.specs.Reading.{◌>>=◌, after_lines}
-use Rattle.tg_text.specs.GraphText.{graph_text, graph_item, empty_graph}
+use Rattle.tg_text.specs.GraphText.{graph_text, graph_item, nothing_read}
 use Rattle.tg_text.specs.RuleText.{rules_text, rule_item}
 use Rattle.officer.specs.Readings.{from_text, graph_in, rules_in}
 use Rattle.officer.specs.Reports.{text_of, parts_texts, graph_part, rules_part, apply_report, played, played_report}
@@ -163,7 +163,7 @@ no_rules input rest h e =
 -- texts with the same lines have the same report
 graph_by_lines : (a b : List ℕ) → lines_of a ≡ lines_of b → graph_text a ≡ graph_text b
 unfolding graph_text
-graph_by_lines a b e = ap (λ (ls : List (List ℕ)). after_lines (λ n. graph_item) 1 empty_graph ls) e
+graph_by_lines a b e = ap (λ (ls : List (List ℕ)). after_lines (λ n. graph_item) 1 nothing_read ls >>= λ made. Ok made.1) e
 
 rules_by_lines : (a b : List ℕ) → lines_of a ≡ lines_of b → rules_text a ≡ rules_text b
 unfolding rules_text

@@ -1,6 +1,7 @@
 //! Scripts whose seats play in threads of their own, at once.
 ghost use Rattle.std.specs.Prelude.{◌≡◌, ◌==◌, ◌+◌, ◌<◌, ◌≤◌, ℕ, [], All, IfOk, IfErr, Some, length, slice_get};
 ghost use Rattle.tg_graph.specs.GraphOf.{graph_of};
+ghost use Rattle.tg_graph.specs.Limits.{most_vertices};
 ghost use Rattle.tg_text.specs.ScriptText.{script_of};
 ghost use Rattle.tg_journal.specs.Lists.{Begins};
 ghost use Rattle.tg_store.specs.Acts.{IsStageableAct};
@@ -212,7 +213,7 @@ fn store_for(
     graph: &Graph,
     script: &Script,
 ) -> Result<(Store, Vec<Seat>), AllocError>
-    requires small { length (graph_of graph.now).vertices ≤ 1024 }
+    requires small { length (graph_of graph.now).vertices ≤ most_vertices }
     requires playable { IsPlayableScript (script_of script.now) }
     ensures opening { IfOk result (λ r. r.0.opening ≡ graph.now) }
     ensures cells { IfOk result (λ r. length r.0.cells ≡ script.now.cells) }
@@ -235,7 +236,7 @@ fn raced<R: Threads + Sync>(
     graph: &Graph,
     script: &Script,
 ) -> Result<Report, AllocError>
-    requires small { length (graph_of graph.now).vertices ≤ 1024 }
+    requires small { length (graph_of graph.now).vertices ≤ most_vertices }
     requires playable { IsPlayableScript (script_of script.now) }
     ensures { IfOk result
         (λ report. IsRaced (graph_of graph.now) (script_of script.now) (report_text report)) }
