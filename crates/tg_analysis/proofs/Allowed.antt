@@ -2,7 +2,7 @@
 use Rattle.std.proofs.Common.{◌≡◌, Bool, true, false, not, ◌&&◌, ◌⊎◌, inl, inr, Option, None, refl, sym, ap, ◌∙◌, subst, IsTrue, lit<}
 use Rattle.std.proofs.lemmas.Bool.{true≢false, eq-eqb, and_left, and_right, not_from_true}
 use Rattle.tg_graph.specs.declared.right_sets.Right.{Right}
-use Rattle.tg_graph.specs.declared.right_sets.Right.TheVariants.{T, G, R, W, E}
+use Rattle.tg_graph.specs.declared.right_sets.Right.TheVariants.{T, G, R, W, E, A, D}
 use Rattle.tg_graph.specs.declared.right_sets.Rights.{Rights}
 use Rattle.tg_graph.specs.declared.rules.Rule.TheVariants.{Take, Grant, Create}
 use Rattle.tg_graph.specs.declared.rules.Refusal.{Refusal}
@@ -19,6 +19,8 @@ only_named G = lit< tt
 only_named R = lit< tt
 only_named W = lit< tt
 only_named E = lit< tt
+only_named A = lit< tt
+only_named D = lit< tt
 
 pub take_and_grant_named : IsNamed take_and_grant
 take_and_grant_named = lit< tt
@@ -29,6 +31,8 @@ only_member G = refl
 only_member R = refl
 only_member W = refl
 only_member E = refl
+only_member A = refl
+only_member D = refl
 
 pub only_full : (right : Right) → is_empty_set (only right) ≡ false
 only_full T = refl
@@ -36,6 +40,8 @@ only_full G = refl
 only_full R = refl
 only_full W = refl
 only_full E = refl
+only_full A = refl
+only_full D = refl
 
 pub only_cases : (a b : Right) → (member (only a) b ≡ false) ⊎ (a ≡ b)
 only_cases T T = inr refl
@@ -43,26 +49,50 @@ only_cases T G = inl refl
 only_cases T R = inl refl
 only_cases T W = inl refl
 only_cases T E = inl refl
+only_cases T A = inl refl
+only_cases T D = inl refl
 only_cases G T = inl refl
 only_cases G G = inr refl
 only_cases G R = inl refl
 only_cases G W = inl refl
 only_cases G E = inl refl
+only_cases G A = inl refl
+only_cases G D = inl refl
 only_cases R T = inl refl
 only_cases R G = inl refl
 only_cases R R = inr refl
 only_cases R W = inl refl
 only_cases R E = inl refl
+only_cases R A = inl refl
+only_cases R D = inl refl
 only_cases W T = inl refl
 only_cases W G = inl refl
 only_cases W R = inl refl
 only_cases W W = inr refl
 only_cases W E = inl refl
+only_cases W A = inl refl
+only_cases W D = inl refl
 only_cases E T = inl refl
 only_cases E G = inl refl
 only_cases E R = inl refl
 only_cases E W = inl refl
 only_cases E E = inr refl
+only_cases E A = inl refl
+only_cases E D = inl refl
+only_cases A T = inl refl
+only_cases A G = inl refl
+only_cases A R = inl refl
+only_cases A W = inl refl
+only_cases A E = inl refl
+only_cases A A = inr refl
+only_cases A D = inl refl
+only_cases D T = inl refl
+only_cases D G = inl refl
+only_cases D R = inl refl
+only_cases D W = inl refl
+only_cases D E = inl refl
+only_cases D A = inl refl
+only_cases D D = inr refl
 
 no_member : (s : Rights) → IsNamed s → ((right : Right) → member s right ≡ false) → is_empty_set s ≡ true
 no_member s named none = eq-eqb s.0 0 (ap (λ (r : Rights). r.0) (same_set s nothing (λ right. none right ∙ sym (member-nothing right)) named (lit< tt)))

@@ -5,16 +5,17 @@ use Rattle.std.proofs.lemmas.List.{get_or_append_left, length-append}
 use Rattle.std.proofs.Math.Nat.{mul-div_cancel_left, zero-div, zero-mul, le-div_iff_mul-le, div-mul-le_self, div-le_of_le-mul, mul-le-mul, mul-le-mul_right}
 use Rattle.std.proofs.Math.Seq.{get_or-append_seam}
 use Rattle.tg_graph.specs.declared.right_sets.Right.{Right}
+use Rattle.tg_graph.specs.Limits.{most_vertices}
 use Rattle.tg_graph.specs.Rows.{Entries}
 use Rattle.tg_analysis.specs.Numbering.{AreCounted}
 use Rattle.tg_analysis.specs.Holdings.{JoinsHoldings}
 use Rattle.tg_analysis.specs.Gathered.{Gathers}
-use Rattle.tg_analysis.specs.Tables.{block_start, AreBlocks}
+use Rattle.tg_analysis.specs.Tables.{most_workers, block_start, AreBlocks}
 use Rattle.tg_analysis.proofs.Gathered.{gathers-none, gathers-joined}
 
-pub product_fits : (block count : ℕ) → block ≤ 16 → count ≤ 1024 → block * count < 2 ^ 64
+pub product_fits : (block count : ℕ) → block ≤ most_workers → count ≤ most_vertices → block * count < 2 ^ 64
 product_fits block count few small =
-    let most : block * count ≤ 16 * 1024 = mul-le-mul {n₁ = block} {m₁ = count} {n₂ = 16} {m₂ = 1024} few small in omega (arith, most)
+    let most : block * count ≤ most_workers * most_vertices = mul-le-mul {n₁ = block} {m₁ = count} {n₂ = most_workers} {m₂ = most_vertices} few small in omega (arith, most)
 
 pub starts_rise : (count workers block : ℕ) → 0 < workers → block * count / workers ≤ (block + 1) * count / workers
 starts_rise count workers block some =

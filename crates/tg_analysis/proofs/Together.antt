@@ -2,9 +2,10 @@
 use Rattle.std.proofs.Common.{◌≡◌, ℕ, ◌+◌, ◌*◌, ◌^◌, ◌<◌, ◌≤◌, false, ◌⊎◌, inl, inr, List, [], ◌∷◌, length, refl, sym, subst, IsTrue, arith}
 use Rattle.std.proofs.lemmas.Bool.{both_ways, cases_Bool}
 use Rattle.tg_graph.specs.declared.right_sets.Right.{Right}
-use Rattle.tg_graph.specs.declared.right_sets.Right.TheVariants.{T, G, R, W, E}
+use Rattle.tg_graph.specs.declared.right_sets.Right.TheVariants.{T, G, R, W, E, A, D}
 use Rattle.tg_graph.specs.declared.right_sets.Rights.{Rights}
 use Rattle.tg_graph.specs.Sets.{member}
+use Rattle.tg_graph.specs.Letters.{all_rights}
 use Rattle.tg_graph.specs.Graphs.{Name, ProtectionGraph, has_vertex, WellFormed}
 use Rattle.tg_graph.specs.RuleLists.{CanShareAll}
 use Rattle.tg_analysis.specs.Sharing.{IsChain, HeldInIsland, TogetherAsAlone}
@@ -61,15 +62,14 @@ gives n s x y (r ∷ rs) g well ky each room = go (cases_Bool (member s r)) (λ 
         let b = rest a.0 (well_end g a.0 _ _ well d) (stays g a.0 y d.keeps ky) (λ right m. near_kept g a.0 right x y n d.keeps (each right m)) (omega (arith, room, d.room)) in
         (b.0, at_most g b.0 (4 * n + 4 * total n rs) (4 * total n (r ∷ rs)) (n + total n rs) (total n (r ∷ rs)) (omega arith) (omega arith) (derives_then g a.0 b.0 (4 * n) (4 * total n rs) n (total n rs) d b.1), λ right i m. elim i [ inl e' ↦ b.1.keeps.triples x right y (subst (λ t. IsTrue ((a.0).holds x t y)) e' a.2) | inr i' ↦ b.2 right i' m ])
 
-abbrev all_rights : List Right
-all_rights = T ∷ G ∷ R ∷ W ∷ E ∷ []
-
 in_all : (right : Right) → In right all_rights
 in_all T = inl refl
 in_all G = inr (inl refl)
 in_all R = inr (inr (inl refl))
 in_all W = inr (inr (inr (inl refl)))
 in_all E = inr (inr (inr (inr (inl refl))))
+in_all A = inr (inr (inr (inr (inr (inl refl)))))
+in_all D = inr (inr (inr (inr (inr (inr (inl refl))))))
 
 share_all : (g : ProtectionGraph) (s : Rights) (x y : Name) → WellFormed g → length g.vertices < 2 ^ 64 → IsTrue (has_vertex g y) → ((right : Right) → IsTrue (member s right) → HeldInIsland g right x y) → CanShareAll g s x y
 share_all g s x y well room y_there each =

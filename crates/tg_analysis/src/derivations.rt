@@ -77,7 +77,7 @@ fn derive(
 ///
 /// # Errors
 /// - `Unknown`: the first of `x` and `y` that is no vertex.
-/// - `TooLarge`: the graph has more than 1,024 vertices.
+/// - `TooLarge`: the graph has more than `MOST_VERTICES` vertices.
 /// - `Memory`: there was no memory.
 pub fn derivation(
     alloc: Global,

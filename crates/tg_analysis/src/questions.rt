@@ -7,7 +7,7 @@ use tg_graph::Name;
 pub enum AskFault {
     /// The name, the first of those asked about, is no vertex.
     Unknown(Name),
-    /// The graph has more than 1,024 vertices.
+    /// The graph has more than `MOST_VERTICES` vertices.
     TooLarge,
     /// There was no memory.
     Memory,

@@ -7,7 +7,7 @@ use std::alloc::AllocError;
 pub enum TableFault {
     /// The number of workers is not 1 to 16.
     Workers,
-    /// The graph has more than 1,024 vertices.
+    /// The graph has more than `MOST_VERTICES` vertices.
     TooLarge,
     /// There was no memory.
     Memory,

@@ -88,7 +88,7 @@ fn compute<R: Threads + Sync, G: Gate>(
 ///
 /// # Errors
 /// - `Workers`: the number of workers is not 1 to 16.
-/// - `TooLarge`: the graph has more than 1,024 vertices.
+/// - `TooLarge`: the graph has more than `MOST_VERTICES` vertices.
 /// - `Memory`: there was no memory, here or in a worker; all workers have ended by then.
 pub fn pair_table<R: Threads + Sync, G: Gate>(
     rt: &R,
