@@ -4,8 +4,6 @@
 mod answers;
 mod blocks;
 mod chains;
-#[cfg(test)]
-mod derivation_tests;
 mod derivations;
 #[cfg(test)]
 mod famine_tests;
@@ -22,12 +20,16 @@ mod memory_tests;
 mod met;
 mod moves;
 mod numbering;
+#[cfg(test)]
+mod question_tests;
 mod questions;
 mod spreading;
 mod table_faults;
 #[cfg(test)]
 mod table_tests;
 mod tables;
+#[cfg(test)]
+mod test_answers;
 #[cfg(test)]
 mod test_graphs;
 

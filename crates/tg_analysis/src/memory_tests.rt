@@ -2,13 +2,11 @@
 // call was refused memory, its second try has it.
 ghost use Rattle.tg_graph.specs.Sets.{IsNamed};
 
-use crate::answers::can_share;
-use crate::derivations::derivation;
-use crate::flooding::islands;
 use crate::gates::OpenGate;
 use crate::questions::AskFault;
 use crate::table_faults::TableFault;
-use crate::tables::{PairTable, pair_table};
+use crate::tables::PairTable;
+use crate::test_answers::{assert_numbers, assert_table, derived, islands_of, shares, table_of};
 use std::alloc::{AllocError, Global};
 use std::process::Abort;
 use std::test::Fail;
@@ -31,8 +29,8 @@ fn joined(graph: &mut Graph, x: Name, y: Name, rights: Rights) -> Result<(), Edg
     }
 }
 
-// _0 has g over _1, and _1 has r over _2.
-fn three(alloc: Global) -> Result<Graph, Fail> {
+/// _0 has g over _1, and _1 has r over _2.
+pub(crate) fn three(alloc: Global) -> Result<Graph, Fail> {
     let mut graph = Graph::new(alloc);
     for number in 0..3 {
         added(&mut graph, Name::helper(number))?;
@@ -46,40 +44,39 @@ fn three(alloc: Global) -> Result<Graph, Fail> {
 #[test]
 fn refused_islands(rt: HostRuntime) -> Result<(), Fail> {
     let graph = three(rt.alloc())?;
-    let islands = match islands(rt.alloc(), &graph) {
+    let islands = match islands_of(rt.alloc(), &graph) {
         Ok(islands) => islands,
-        Err(AllocError) => islands(rt.alloc(), &graph)?,
+        Err(AllocError) => islands_of(rt.alloc(), &graph)?,
     };
-    assert!(rt; islands.count() == 2);
-    assert!(rt; islands.of(0) == Some(0) && islands.of(1) == Some(0) && islands.of(2) == Some(1));
+    assert_numbers(&rt, &islands, 2, &[Some(0), Some(0), Some(1)]);
     Ok(())
 }
 
 // Whether _0 can come to have the right over _2.
 fn asked(rt: &impl Abort, alloc: Global, graph: &Graph, right: Right) -> Result<bool, AskFault> {
     let (x, y) = (Name::helper(0), Name::helper(2));
-    match can_share(alloc, graph, right, x, y) {
+    match shares(alloc, graph, right, x, y) {
         Ok(answer) => Ok(answer),
         Err(fault) => {
             assert!(rt; fault == AskFault::Memory);
-            can_share(alloc, graph, right, x, y)
+            shares(alloc, graph, right, x, y)
         }
     }
 }
 
 // By which rules.
-fn derived(
+fn rules_of(
     rt: &impl Abort,
     alloc: Global,
     graph: &Graph,
     right: Right,
 ) -> Result<Option<Vec<Rule>>, AskFault> {
     let (x, y) = (Name::helper(0), Name::helper(2));
-    match derivation(alloc, graph, right, x, y) {
+    match derived(alloc, graph, right, x, y) {
         Ok(rules) => Ok(rules),
         Err(fault) => {
             assert!(rt; fault == AskFault::Memory);
-            derivation(alloc, graph, right, x, y)
+            derived(alloc, graph, right, x, y)
         }
     }
 }
@@ -88,11 +85,8 @@ fn derived(
 fn refused_questions(rt: HostRuntime) -> Result<(), Fail> {
     let graph = three(rt.alloc())?;
     assert!(rt; asked(&rt, rt.alloc(), &graph, Right::R)?);
-    let Some(rules) = derived(&rt, rt.alloc(), &graph, Right::R)? else {
-        assert!(rt; false);
-        return Ok(());
-    };
-    assert!(rt; rules.len() == 4);
+    let rules = rules_of(&rt, rt.alloc(), &graph, Right::R)?;
+    assert!(rt; rules.is_some_and(|rules| rules.len() == 4));
     Ok(())
 }
 
@@ -101,7 +95,7 @@ fn refused_questions(rt: HostRuntime) -> Result<(), Fail> {
 fn refused_questions_with_a_no(rt: HostRuntime) -> Result<(), Fail> {
     let graph = three(rt.alloc())?;
     assert!(rt; !asked(&rt, rt.alloc(), &graph, Right::W)?);
-    assert!(rt; derived(&rt, rt.alloc(), &graph, Right::W)?.is_none());
+    assert!(rt; rules_of(&rt, rt.alloc(), &graph, Right::W)?.is_none());
     Ok(())
 }
 
@@ -111,11 +105,11 @@ fn tabled<R: Threads + Abort + Sync>(
     alloc: Global,
     graph: &Graph,
 ) -> Result<PairTable, TableFault> {
-    match pair_table(rt, alloc, graph, Right::R, 2, &OpenGate) {
+    match table_of(rt, alloc, graph, 2, &OpenGate) {
         Ok(table) => Ok(table),
         Err(fault) => {
             assert!(rt; fault == TableFault::Memory);
-            pair_table(rt, alloc, graph, Right::R, 2, &OpenGate)
+            table_of(rt, alloc, graph, 2, &OpenGate)
         }
     }
 }
@@ -124,7 +118,6 @@ fn tabled<R: Threads + Abort + Sync>(
 fn refused_table(rt: HostRuntime) -> Result<(), Fail> {
     let graph = three(rt.alloc())?;
     let table = tabled(&rt, rt.alloc(), &graph)?;
-    assert!(rt; table.len() == 3);
-    assert!(rt; table.cell(0, 2) == Some(true) && table.cell(2, 2) == Some(false));
+    assert_table(&rt, &table, &[b"001", b"001", b"000"]);
     Ok(())
 }

@@ -1,70 +1,84 @@
-//! Graphs and rules for tests, by their names and letters.
+//! Graphs and rules for tests, in words: "a b c" are three vertices, "a b t" is an edge, and "take a
+//! b c r" is a rule. A word that is none fails its test. The calls tell nothing of what they did, so
+//! the check of a test that makes many of them stays short.
 ghost use Rattle.tg_graph.specs.Sets.{IsNamed};
 
 use std::alloc::Global;
 use std::process::Abort;
-use std::test::Fail;
+use std::str::SplitWhitespace;
 use tg_graph::{Graph, Name, Rights, Rule};
 
-pub(crate) fn name(rt: &impl Abort, bytes: &[u8]) -> Name {
-    Name::parse(bytes).expect(rt, "a name")
+pub(crate) fn name(rt: &impl Abort, word: &str) -> Name {
+    Name::parse(word.as_bytes()).expect(rt, "a name")
 }
 
-pub(crate) fn set(rt: &impl Abort, letters: &[u8]) -> Rights
+fn set(rt: &impl Abort, letters: &str) -> Rights
     ensures { IsNamed result }
 {
-    Rights::from_letters(letters).expect(rt, "letters of rights")
+    Rights::from_letters(letters.as_bytes()).expect(rt, "letters of rights")
+}
+
+// The next word of a line.
+fn word<'a>(rt: &impl Abort, words: &mut SplitWhitespace<'a>) -> &'a str {
+    words.next().expect(rt, "one word more")
+}
+
+fn add_vertex(rt: &impl Abort, graph: &mut Graph, vertex: &str) {
+    assert!(rt; graph.add_vertex(name(rt, vertex)).is_ok());
+}
+
+// Adds the edge that a line says.
+fn add_edge(rt: &impl Abort, graph: &mut Graph, line: &str) {
+    let mut words = line.split_whitespace();
+    let source = name(rt, word(rt, &mut words));
+    let target = name(rt, word(rt, &mut words));
+    let rights = set(rt, word(rt, &mut words));
+    assert!(rt; graph.add_edge(source, target, rights).is_ok());
 }
 
 /// The graph with these vertices, in this order, and these edges.
-pub(crate) fn graph(
-    rt: &impl Abort,
-    alloc: Global,
-    vertices: &[&[u8]],
-    edges: &[(&[u8], &[u8], &[u8])],
-) -> Result<Graph, Fail> {
+pub(crate) fn graph(rt: &impl Abort, alloc: Global, vertices: &str, edges: &[&str]) -> Graph {
     let mut graph = Graph::new(alloc);
-    for vertex in vertices {
-        graph.add_vertex(name(rt, vertex))?;
+    for vertex in vertices.split_whitespace() {
+        add_vertex(rt, &mut graph, vertex);
     }
-    for (source, target, letters) in edges {
-        graph.add_edge(name(rt, source), name(rt, target), set(rt, letters))?;
+    for edge in edges {
+        add_edge(rt, &mut graph, edge);
     }
-    Ok(graph)
+    graph
+}
+
+// Adds the vertex v0, v1 or so on.
+fn add_numbered(rt: &impl Abort, alloc: Global, graph: &mut Graph, number: u32) {
+    let text = format!(in alloc; "v{number}").expect(rt, "room for a name");
+    add_vertex(rt, graph, text.as_str());
 }
 
 /// The graph with so many vertices, v0, v1 and so on, and no edge.
-pub(crate) fn numbered(rt: &impl Abort, alloc: Global, count: u32) -> Result<Graph, Fail> {
+pub(crate) fn numbered(rt: &impl Abort, alloc: Global, count: u32) -> Graph {
     let mut graph = Graph::new(alloc);
     for number in 0..count {
-        let text = format!(in alloc; "v{number}")?;
-        graph.add_vertex(name(rt, text.as_bytes()))?;
+        add_numbered(rt, alloc, &mut graph, number);
     }
-    Ok(graph)
+    graph
 }
 
-pub(crate) fn take(rt: &impl Abort, x: &[u8], y: &[u8], z: &[u8], letters: &[u8]) -> Rule {
-    Rule::Take {
-        x: name(rt, x),
-        y: name(rt, y),
-        z: name(rt, z),
-        rights: set(rt, letters),
+/// The rule that a line says.
+pub(crate) fn rule(rt: &impl Abort, line: &str) -> Rule {
+    let mut words = line.split_whitespace();
+    let kind = word(rt, &mut words);
+    let x = name(rt, word(rt, &mut words));
+    let y = name(rt, word(rt, &mut words));
+    let last = word(rt, &mut words);
+    if kind == "create" {
+        let rights = set(rt, last);
+        return Rule::Create { x, n: y, rights };
     }
-}
-
-pub(crate) fn grant(rt: &impl Abort, x: &[u8], y: &[u8], z: &[u8], letters: &[u8]) -> Rule {
-    Rule::Grant {
-        x: name(rt, x),
-        y: name(rt, y),
-        z: name(rt, z),
-        rights: set(rt, letters),
-    }
-}
-
-pub(crate) fn create(rt: &impl Abort, x: &[u8], n: &[u8], letters: &[u8]) -> Rule {
-    Rule::Create {
-        x: name(rt, x),
-        n: name(rt, n),
-        rights: set(rt, letters),
+    let z = name(rt, last);
+    let rights = set(rt, word(rt, &mut words));
+    if kind == "take" {
+        Rule::Take { x, y, z, rights }
+    } else {
+        Rule::Grant { x, y, z, rights }
     }
 }
