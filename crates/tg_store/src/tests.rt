@@ -235,7 +235,7 @@ fn in_crowded_hall(rt: &impl process::Abort, alloc: Global, graph: &Graph) {
 // The second seat, which was crowded, begins again on what the first has done.
 fn in_full_store(rt: &impl process::Abort, alloc: Global, graph: &Graph, rows: &[Row]) {
     let mut desk = in_store(rt, alloc, graph, 8, rows);
-    stands(rt, &desk, 2, 0, 1023, &[]);
+    stands(rt, &desk, 2, 0, 4095, &[]);
     desk.play(rt, &[(2, Begin, Done), (2, Abort, Done)]);
     has_p(rt, desk.seat(rt, 1).graph());
     has_p(rt, desk.seat(rt, 2).graph());
@@ -258,7 +258,7 @@ fn refused(
 #[test]
 fn full_graphs(rt: HostRuntime) -> Result<(), Fail> {
     let alloc = rt.alloc();
-    let mut g = vertices(alloc, 1023)?;
+    let mut g = vertices(alloc, 4095)?;
     let rows = [
         (1, Begin, Done),
         (2, Begin, Done),

@@ -8,7 +8,7 @@ use Rattle.tg_store.proofs.Crowds.{name_count-apart}
 use Rattle.tg_store.proofs.spoilers.crowds.Goals as goal
 
 -- sums that stop at the largest number compare with a small one as the true sums do
-stopped : (v a b created total count : ℕ) → created ≡ min (a + b) 18446744073709551615 → total ≡ min (v + created) 18446744073709551615 → count ≡ v + a + b → (1024 < total → 1024 < count) × (1024 < count → 1024 < total)
+stopped : (v a b created total count : ℕ) → created ≡ min (a + b) 18446744073709551615 → total ≡ min (v + created) 18446744073709551615 → count ≡ v + a + b → (4096 < total → 4096 < count) × (4096 < count → 4096 < total)
 stopped v a b created total count e f n = (λ h. omega arith, λ h. omega arith)
 
 pub returns : goal.returns
