@@ -59,9 +59,9 @@ pub enum HallReply {
 pub enum StoreFault {
     /// The opening graph has more vertices than a session may have.
     TooManyVertices,
-    /// The number of cells is not 1 to 4,096.
+    /// The number of cells is not 1 to `MOST_CELLS`.
     Cells,
-    /// The number of seats is not 1 to 64.
+    /// The number of seats is not 1 to `MOST_SEATS`.
     Seats,
     /// Memory was refused.
     Memory,

@@ -150,8 +150,8 @@ impl Hall {
     /// A hall over a copy of the opening graph, with an empty history of so many cells, and with
     /// seats from number 1 on.
     ///
-    /// Its faults, in this order: the graph has more than 1,024 vertices; the cells are not 1 to
-    /// 4,096; the seats are not 1 to 64; memory was refused.
+    /// Its faults, in this order: the graph has more vertices than `MOST_VERTICES`; the cells are
+    /// not 1 to `MOST_CELLS`; the seats are not 1 to `MOST_SEATS`; memory was refused.
     pub fn new(alloc: Global, graph: &Graph, cells: usize, seats: u32) -> Result<Hall, StoreFault>
         ensures { OpensHall graph.now cells seats result }
     {

@@ -10,6 +10,8 @@
 #[cfg(test)]
 mod answer_tests;
 mod answers;
+#[cfg(test)]
+mod desks;
 mod events;
 #[cfg(test)]
 mod famine_tests;
@@ -21,6 +23,8 @@ mod records;
 mod replays;
 mod running_seats;
 mod running_sessions;
+#[cfg(test)]
+mod scripts;
 mod seats;
 mod spoilers;
 #[cfg(test)]

@@ -1,11 +1,11 @@
 // What a store does without memory. Each test passes when every request for memory from some one on
 // is refused, which `make refusals` tries: it ends early or with an error where it can't be set up,
 // and else everything is answered.
-ghost use Rattle.std.specs.Prelude.{◌≡◌};
 ghost use Rattle.tg_store.specs.Running.{IsOf};
 
-use crate::store_tests::lonely;
-use crate::test_helpers::{graph, name};
+use crate::desks::{lonely, opened};
+use crate::scripts::name;
+use crate::test_helpers::graph;
 use crate::{Begun, Committed, Seat, Session, Store, StoreFault};
 use std::alloc::Global;
 use std::process::Abort;
@@ -43,10 +43,7 @@ fn read(rt: &impl Abort, store: &Store, seat: &Seat, taken: usize)
 #[test]
 fn bare_begin(rt: HostRuntime) -> Result<(), Fail> {
     let g = three(&rt, rt.alloc())?;
-    let (store, mut seats) = Store::start(rt.alloc(), &g, 4, 1)?;
-    let Some(seat) = seats.pop() else {
-        panic!(rt; "no seat");
-    };
+    let (store, seat, _) = opened(rt.alloc(), &g, 4)?;
     read(&rt, &store, &seat, 0);
     let seat = begun(&rt, &store, seat).abort();
     read(&rt, &store, &seat, 0);
@@ -68,10 +65,7 @@ fn goes_on(rt: &impl Abort, store: &Store, seat: Seat)
 #[test]
 fn a_record_read(rt: HostRuntime) -> Result<(), Fail> {
     let g = three(&rt, rt.alloc())?;
-    let (store, mut seats) = Store::start(rt.alloc(), &g, 4, 1)?;
-    let Some(seat) = seats.pop() else {
-        panic!(rt; "no seat");
-    };
+    let (store, seat, _) = opened(rt.alloc(), &g, 4)?;
     match store.commit(begun(&rt, &store, seat)) {
         Committed::Done(seat, _) => goes_on(&rt, &store, seat),
         // it was not set up

@@ -1,9 +1,10 @@
 // Each test passes whichever one request for memory is refused, which `make refusals` tries. Where a
 // call was refused memory, its second try has it.
-ghost use Rattle.std.specs.Prelude.{◌≡◌, ◌<◌, ◌+◌, ℕ, IfOk, Some, length, slice_get, take};
-ghost use Rattle.tg_store.specs.Running.{IsOf, first_seat};
+ghost use Rattle.std.specs.Prelude.{◌≡◌, IfOk, length, take};
+ghost use Rattle.tg_store.specs.Running.{IsOf};
 
-use crate::test_helpers::{create, holds, name, set, take};
+use crate::desks::opened;
+use crate::scripts::{Deed, name, set, step_of};
 use crate::{
     Answered, BeginFault, Begun, Committed, Record, Seat, Session, Store, StoreFault,
     StoreMeetFault,
@@ -26,21 +27,8 @@ fn four(rt: &impl Abort, alloc: Global) -> Option<Graph> {
     Some(graph)
 }
 
-// Four cells.
-fn started(alloc: Global, graph: &Graph, seats: u32) -> Result<(Store, Vec<Seat>), StoreFault>
-    ensures count { IfOk result (λ r. length r.1.items ≡ seats) }
-    ensures seats { IfOk result
-        (λ r. (k : ℕ) → k < seats → slice_get r.1.items k ≡ Some (first_seat r.0 (k + 1))) }
-{
-    match Store::start(alloc, graph, 4, seats) {
-        Ok(made) => Ok(made),
-        Err(StoreFault::Memory) => Store::start(alloc, graph, 4, seats),
-        Err(fault) => Err(fault),
-    }
-}
-
 // A store over the four vertices with two seats.
-fn opened(rt: &impl Abort, alloc: Global) -> (Store, Seat, Seat)
+fn opened_on_four(rt: &impl Abort, alloc: Global) -> (Store, Seat, Seat)
     ensures one { IsOf result.0 result.1 }
     ensures two { IsOf result.0 result.2 }
 {
@@ -48,13 +36,11 @@ fn opened(rt: &impl Abort, alloc: Global) -> (Store, Seat, Seat)
         Some(graph) => graph,
         None => four(rt, alloc).expect(rt, "a graph"),
     };
-    let Ok((store, mut seats)) = started(alloc, &graph, 2) else {
-        panic!(rt; "no store");
-    };
-    let (Some(two), Some(one)) = (seats.pop(), seats.pop()) else {
-        panic!(rt; "no seats");
-    };
-    (store, one, two)
+    let first = opened(alloc, &graph, 4);
+    match first {
+        Err(StoreFault::Memory) => opened(alloc, &graph, 4).expect(rt, "a store"),
+        made => made.expect(rt, "a store"),
+    }
 }
 
 fn begun(rt: &impl Abort, store: &Store, seat: Seat) -> Session
@@ -75,14 +61,14 @@ fn begun(rt: &impl Abort, store: &Store, seat: Seat) -> Session
 fn takes(rt: &impl Abort, session: &mut Session) -> bool
     ensures { session.new.seat ≡ session.old.seat }
 {
-    session.step(take(rt, b'a', b'b', b'c', b"r")) == Ok(Reply::Done)
+    session.step(step_of(rt, Deed::Take(*b"abc", b"r"))) == Ok(Reply::Done)
 }
 
 // Whether d is said to create n.
 fn creates(rt: &impl Abort, session: &mut Session) -> bool
     ensures { session.new.seat ≡ session.old.seat }
 {
-    session.step(create(rt, name(rt, b'd'), b'n', b"g")) == Ok(Reply::Done)
+    session.step(step_of(rt, Deed::Create(*b"dn", b"g"))) == Ok(Reply::Done)
 }
 
 // Whether z is said to be no vertex.
@@ -90,7 +76,7 @@ fn asks(rt: &impl Abort, session: &mut Session) -> bool
     ensures { session.new.seat ≡ session.old.seat }
 {
     let unknown = Reply::Refused(Refusal::Unknown(name(rt, b'z')));
-    session.step(holds(rt, Right::R, b'a', b'z')) == Ok(unknown)
+    session.step(step_of(rt, Deed::Holds(Right::R, *b"az"))) == Ok(unknown)
 }
 
 // A session that was refused memory goes on, and its record has the place that it would have had.
@@ -113,7 +99,7 @@ fn committed(rt: &impl Abort, store: &Store, session: Session, place: usize) -> 
 
 #[test]
 fn refused_commits(rt: HostRuntime) {
-    let (store, one, _two) = opened(&rt, rt.alloc());
+    let (store, one, _two) = opened_on_four(&rt, rt.alloc());
     let mut session = begun(&rt, &store, one);
     let staged = asks(&rt, &mut session) || asks(&rt, &mut session);
     assert!(rt; staged);
@@ -147,7 +133,7 @@ fn behind(rt: &impl Abort, store: &Store, one: Seat, two: Seat) -> Session
 
 // Whether a took r over c.
 fn is_done_take(rt: &impl Abort, answered: &Answered) -> bool {
-    answered.reply == Reply::Done && answered.step == take(rt, b'a', b'b', b'c', b"r")
+    answered.reply == Reply::Done && answered.step == step_of(rt, Deed::Take(*b"abc", b"r"))
 }
 
 // Its only step was done, and it is the first of its seat.
@@ -162,7 +148,7 @@ fn is_first_take(rt: &impl Abort, record: &Record) {
 
 #[test]
 fn refused_commit_behind_another(rt: HostRuntime) {
-    let (store, one, two) = opened(&rt, rt.alloc());
+    let (store, one, two) = opened_on_four(&rt, rt.alloc());
     let session = behind(&rt, &store, one, two);
     let one = committed(&rt, &store, session, 1);
     let Some(record) = store.at(&one, 1) else {
@@ -200,7 +186,7 @@ fn rests_on_the_creation(rt: &impl Abort, seat: &Seat) {
 // A session that was refused memory is given up, and its seat begins again.
 #[test]
 fn abort_after_a_refusal(rt: HostRuntime) {
-    let (store, one, two) = opened(&rt, rt.alloc());
+    let (store, one, two) = opened_on_four(&rt, rt.alloc());
     let session = behind(&rt, &store, one, two);
     match store.commit(session) {
         Committed::Again(session) => {
@@ -216,7 +202,7 @@ fn abort_after_a_refusal(rt: HostRuntime) {
 // A seat that was refused memory has taken in what its graph shows.
 #[test]
 fn refused_begin(rt: HostRuntime) {
-    let (store, one, two) = opened(&rt, rt.alloc());
+    let (store, one, two) = opened_on_four(&rt, rt.alloc());
     assert!(rt; put_first(&rt, &store, two).taken() == 1);
     let session = match store.begin(one) {
         Begun::Session(session) => session,
@@ -241,7 +227,7 @@ fn fronted(store: &Store, seat: &Seat) -> Result<Front<Record>, AllocError>
 
 #[test]
 fn refused_meeting(rt: HostRuntime) -> Result<(), Fail> {
-    let (store, mut one, two) = opened(&rt, rt.alloc());
+    let (store, mut one, two) = opened_on_four(&rt, rt.alloc());
     let two = put_first(&rt, &store, two);
     let front = fronted(&store, &two)?;
     assert!(rt; front.len() == 1);

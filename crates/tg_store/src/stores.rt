@@ -80,8 +80,8 @@ impl Store {
     /// A store over a copy of the opening graph, with an empty journal of so many cells, and its
     /// seats, numbered from 1 in their order.
     ///
-    /// Its faults, in this order: the graph has more than 1,024 vertices; the cells are not 1 to
-    /// 4,096; the seats are not 1 to 64; memory was refused.
+    /// Its faults, in this order: the graph has more vertices than `MOST_VERTICES`; the cells are
+    /// not 1 to `MOST_CELLS`; the seats are not 1 to `MOST_SEATS`; memory was refused.
     pub fn start(
         alloc: Global,
         graph: &Graph,

@@ -1,172 +1,314 @@
-// Sessions that meet, and what is left of them.
-use crate::events::{Event, HallFault, HallReply, StoreFault};
+// What seats do to one another: the same rows at a hall and at a store.
+use crate::Store;
+use crate::desks::{Desk, opened};
+use crate::events::StoreFault;
 use crate::halls::Hall;
+use crate::scripts::Deed::{
+    Abort, Begin, Commit, Create, Holds, Learn, PutOnce, Remove, Share, Take,
+};
+use crate::scripts::Word::{
+    Changed, Crowded, Did, Done, Full, JournalFull, Learned, No, NoSeat, NotOpen, Nothing, Put,
+    Unknown, Yes,
+};
+use crate::scripts::{Row, event_of, name, reply_of};
 use crate::test_helpers::{
-    begins, changed, commits, create, hall_of_three, hall_over, happens, holds, name, numbered,
-    refused, remove, says, says_refused, says_unknown, set, share, staged, take, told, vertices,
+    Label, acts, ends, events, graph, hall_of_three, rests, shows, vertices,
 };
 use std::alloc::Global;
-use std::process::Abort;
+use std::process;
 use std::test::Fail;
-use tg_graph::{Act, Graph, Name, Refusal, Reply, Right};
+use tg_graph::{Graph, MOST_VERTICES, Right};
 
-fn fault_of(alloc: Global, graph: &Graph, cells: usize, seats: u32) -> Option<StoreFault> {
-    Hall::new(alloc, graph, cells, seats).err()
+// The rows are played at a hall of two seats and eight cells over the graph. The replay of all
+// records has so many vertices, and these labels.
+fn in_hall(
+    rt: &impl process::Abort,
+    alloc: Global,
+    graph: &Graph,
+    rows: &[Row],
+    len: usize,
+    labels: &[Label],
+) {
+    let Ok(mut hall) = Hall::new(alloc, graph, 8, 2) else {
+        panic!(rt; "no hall");
+    };
+    acts(rt, &mut hall, rows);
+    ends(rt, &hall, len, labels);
 }
 
-// The label of the edge from x to y in the replay of all records.
-fn ends_with(rt: &impl Abort, hall: &Hall, x: u8, y: u8, letters: &[u8]) -> Result<(), Fail> {
-    let last = hall.last()?;
-    assert!(rt; last.label(name(rt, x), name(rt, y)) == Some(set(rt, letters)));
-    Ok(())
+// The rows are played at a store of two seats over the graph.
+fn in_store(
+    rt: &impl process::Abort,
+    alloc: Global,
+    graph: &Graph,
+    cells: usize,
+    rows: &[Row],
+) -> Desk {
+    let Ok((store, one, two)) = opened(alloc, graph, cells) else {
+        panic!(rt; "no store");
+    };
+    let mut desk = Desk::new(store, one, two);
+    desk.play(rt, rows);
+    desk
 }
 
-// Both seats begin.
-fn begin_two(rt: &impl Abort, hall: &mut Hall) {
-    begins(rt, hall, 1);
-    begins(rt, hall, 2);
+// The free seat of the store has taken in so many records, and its graph has so many vertices, and
+// these labels.
+fn stands(
+    rt: &impl process::Abort,
+    desk: &Desk,
+    number: u32,
+    taken: usize,
+    len: usize,
+    labels: &[Label],
+) {
+    let seat = desk.seat(rt, number);
+    assert!(rt; seat.number() == number);
+    assert!(rt; seat.taken() == taken);
+    shows(rt, seat.graph(), len, labels);
 }
 
+// The seat that was refused begins again on what the other has done.
 #[test]
 fn a_row_that_was_read(rt: HostRuntime) -> Result<(), Fail> {
     let edges = [*b"abt", *b"acw", *b"bat", *b"bcr"];
-    let mut hall = hall_over(&rt, rt.alloc(), b"abc", &edges, 2)?;
-    begin_two(&rt, &mut hall);
-    let first = take(&rt, b'a', b'b', b'c', b"r");
-    let second = take(&rt, b'b', b'a', b'c', b"w");
-    staged(&rt, &mut hall, 1, first, says(Reply::Done));
-    staged(&rt, &mut hall, 2, second, says(Reply::Done));
-    commits(&rt, &mut hall, 1, 0);
-    told(&rt, &mut hall, 2, Act::Commit, changed(&rt, 0, b'a'));
-    ends_with(&rt, &hall, b'a', b'c', b"rw")?;
-    ends_with(&rt, &hall, b'b', b'c', b"r")?;
+    let g = graph(&rt, rt.alloc(), b"abc", &edges)?;
+    let rows = [
+        (1, Begin, Done),
+        (2, Begin, Done),
+        (1, Take(*b"abc", b"r"), Did),
+        (2, Take(*b"bac", b"w"), Did),
+        (1, Commit, Put(0)),
+        (2, Commit, Changed(0, b'a')),
+        (2, Begin, Done),
+        (2, Abort, Done),
+    ];
+    let labels: [Label; 2] = [(*b"ac", b"rw"), (*b"bc", b"r")];
+    in_hall(&rt, rt.alloc(), &g, &rows, 3, &labels);
+    let desk = in_store(&rt, rt.alloc(), &g, 8, &rows);
+    stands(&rt, &desk, 1, 1, 3, &labels);
+    stands(&rt, &desk, 2, 1, 3, &labels);
     Ok(())
 }
 
 #[test]
 fn a_name_that_was_no_vertex(rt: HostRuntime) -> Result<(), Fail> {
-    let mut hall = hall_over(&rt, rt.alloc(), b"abc", &[*b"abt"], 2)?;
-    begin_two(&rt, &mut hall);
-    let first = take(&rt, b'a', b'b', b'n', b"r");
-    let second = create(&rt, name(&rt, b'c'), b'n', b"r");
-    staged(&rt, &mut hall, 1, first, says_unknown(&rt, b'n'));
-    staged(&rt, &mut hall, 2, second, says(Reply::Done));
-    commits(&rt, &mut hall, 2, 0);
-    told(&rt, &mut hall, 1, Act::Commit, changed(&rt, 0, b'n'));
-    ends_with(&rt, &hall, b'c', b'n', b"r")?;
+    let g = graph(&rt, rt.alloc(), b"abc", &[*b"abt"])?;
+    let rows = [
+        (1, Begin, Done),
+        (1, Take(*b"abn", b"r"), Unknown(b'n')),
+        (2, Begin, Done),
+        (2, Create(*b"cn", b"r"), Did),
+        (2, Commit, Put(0)),
+        (1, Commit, Changed(0, b'n')),
+    ];
+    let labels: [Label; 2] = [(*b"ab", b"t"), (*b"cn", b"r")];
+    in_hall(&rt, rt.alloc(), &g, &rows, 4, &labels);
+    let desk = in_store(&rt, rt.alloc(), &g, 8, &rows);
+    stands(&rt, &desk, 1, 0, 3, &[(*b"ab", b"t")]);
+    stands(&rt, &desk, 2, 1, 4, &labels);
     Ok(())
 }
 
 #[test]
 fn two_sessions_apart(rt: HostRuntime) -> Result<(), Fail> {
-    let mut hall = hall_over(&rt, rt.alloc(), b"abcd", &[*b"abt", *b"bcr"], 2)?;
-    begin_two(&rt, &mut hall);
-    let first = take(&rt, b'a', b'b', b'c', b"r");
-    let second = create(&rt, name(&rt, b'd'), b'n', b"g");
-    staged(&rt, &mut hall, 1, first, says(Reply::Done));
-    staged(&rt, &mut hall, 2, second, says(Reply::Done));
-    commits(&rt, &mut hall, 2, 0);
-    commits(&rt, &mut hall, 1, 1);
-    ends_with(&rt, &hall, b'a', b'c', b"r")?;
-    ends_with(&rt, &hall, b'd', b'n', b"g")?;
+    let g = graph(&rt, rt.alloc(), b"abcd", &[*b"abt", *b"bcr"])?;
+    let rows = [
+        (1, Begin, Done),
+        (2, Begin, Done),
+        (1, Take(*b"abc", b"r"), Did),
+        (2, Create(*b"dn", b"g"), Did),
+        (2, Commit, Put(0)),
+        (1, Commit, Put(1)),
+    ];
+    let labels: [Label; 2] = [(*b"ac", b"r"), (*b"dn", b"g")];
+    in_hall(&rt, rt.alloc(), &g, &rows, 5, &labels);
+    let desk = in_store(&rt, rt.alloc(), &g, 8, &rows);
+    stands(&rt, &desk, 1, 2, 5, &labels);
+    stands(&rt, &desk, 2, 1, 5, &[(*b"dn", b"g"), (*b"ac", b"-")]);
+    Ok(())
+}
+
+// A look finds what is there: without a front, a seat that begins takes in what another has put.
+#[test]
+fn questions_after_a_commit(rt: HostRuntime) -> Result<(), Fail> {
+    let g = graph(&rt, rt.alloc(), b"abc", &[*b"abt", *b"bcr"])?;
+    let rows = [
+        (1, Begin, Done),
+        (1, Take(*b"abc", b"r"), Did),
+        (1, Commit, Put(0)),
+        (2, Begin, Done),
+        (2, Holds(Right::R, *b"ac"), Yes),
+        (2, Share(Right::W, *b"ac"), No),
+        (2, Commit, Put(1)),
+    ];
+    let labels: [Label; 1] = [(*b"ac", b"r")];
+    in_hall(&rt, rt.alloc(), &g, &rows, 3, &labels);
+    let desk = in_store(&rt, rt.alloc(), &g, 8, &rows);
+    stands(&rt, &desk, 1, 1, 3, &labels);
+    stands(&rt, &desk, 2, 2, 3, &labels);
+    Ok(())
+}
+
+#[test]
+fn sharing_rests_on_all_names(rt: HostRuntime) -> Result<(), Fail> {
+    let g = graph(&rt, rt.alloc(), b"abc", &[*b"abt", *b"bcr"])?;
+    let changed = [
+        (1, Begin, Done),
+        (2, Begin, Done),
+        (1, Share(Right::W, *b"ac"), No),
+        (2, Create(*b"bn", b"-"), Did),
+        (2, Commit, Put(0)),
+        (1, Commit, Changed(0, b'b')),
+    ];
+    in_hall(&rt, rt.alloc(), &g, &changed, 4, &[]);
+    let empty = [
+        (1, Begin, Done),
+        (2, Begin, Done),
+        (1, Share(Right::R, *b"ac"), Yes),
+        (1, Share(Right::W, *b"ac"), No),
+        (2, Commit, Put(0)),
+        (1, Commit, Put(1)),
+    ];
+    in_hall(&rt, rt.alloc(), &g, &empty, 3, &[]);
     Ok(())
 }
 
 #[test]
 fn one_cell(rt: HostRuntime) -> Result<(), Fail> {
     let g = Graph::new(rt.alloc());
+    let rows = [
+        (1, Begin, Done),
+        (1, Commit, Put(0)),
+        (1, Commit, NotOpen),
+        (1, Begin, Done),
+        (1, Commit, JournalFull),
+        (1, Begin, Done),
+        (1, Abort, Done),
+    ];
     let mut hall = Hall::new(rt.alloc(), &g, 1, 1)?;
-    begins(&rt, &mut hall, 1);
-    commits(&rt, &mut hall, 1, 0);
-    begins(&rt, &mut hall, 1);
-    let full = refused(HallFault::JournalFull);
-    told(&rt, &mut hall, 1, Act::Commit, full);
-    begins(&rt, &mut hall, 1);
-    told(&rt, &mut hall, 1, Act::Abort, HallReply::Done);
-    Ok(())
-}
-
-// A hall of two seats, both of which have begun, over so many vertices without an edge.
-fn begun_over(rt: &impl Abort, alloc: Global, count: u32) -> Result<Hall, Fail> {
-    let g = vertices(alloc, count)?;
-    let mut hall = Hall::new(alloc, &g, 8, 2)?;
-    begin_two(rt, &mut hall);
-    Ok(hall)
-}
-
-// The replay of all records has room for no vertex more, and of p and q it has p.
-fn is_full_with_p(rt: &impl Abort, hall: &Hall) -> Result<(), Fail> {
-    let last = hall.last()?;
-    assert!(rt; last.len() == 1024);
-    assert!(rt; last.knows(name(rt, b'p')));
-    assert!(rt; !last.knows(name(rt, b'q')));
-    Ok(())
-}
-
-#[test]
-fn no_room_for_two(rt: HostRuntime) -> Result<(), Fail> {
-    let (x, y) = (numbered(rt.alloc(), 0)?, numbered(rt.alloc(), 1)?);
-    let mut hall = begun_over(&rt, rt.alloc(), 1023)?;
-    let (p, q) = (create(&rt, x, b'p', b"-"), create(&rt, y, b'q', b"-"));
-    let s = create(&rt, y, b's', b"-");
-    staged(&rt, &mut hall, 1, p, says(Reply::Done));
-    staged(&rt, &mut hall, 2, q, says(Reply::Done));
-    staged(&rt, &mut hall, 2, s, says_refused(Refusal::Full));
-    commits(&rt, &mut hall, 1, 0);
-    let crowded = refused(HallFault::Crowded { place: 0 });
-    told(&rt, &mut hall, 2, Act::Commit, crowded);
-    is_full_with_p(&rt, &hall)
-}
-
-#[test]
-fn a_record_that_would_crowd(rt: HostRuntime) -> Result<(), Fail> {
-    let (x, y) = (numbered(rt.alloc(), 0)?, numbered(rt.alloc(), 1)?);
-    let mut hall = begun_over(&rt, rt.alloc(), 1023)?;
-    let (p, q) = (create(&rt, x, b'p', b"-"), create(&rt, y, b'q', b"-"));
-    staged(&rt, &mut hall, 1, p, says(Reply::Done));
-    staged(&rt, &mut hall, 2, q, says(Reply::Done));
-    commits(&rt, &mut hall, 1, 0);
-    let crowded = refused(HallFault::Crowded { place: 0 });
-    happens(&rt, &mut hall, Event::Learn(2), crowded);
-    Ok(())
-}
-
-#[test]
-fn a_commit_once(rt: HostRuntime) -> Result<(), Fail> {
-    let g = Graph::new(rt.alloc());
-    let mut hall = Hall::new(rt.alloc(), &g, 4, 1)?;
-    begins(&rt, &mut hall, 1);
-    commits(&rt, &mut hall, 1, 0);
-    told(&rt, &mut hall, 1, Act::Commit, refused(HallFault::NotOpen));
+    acts(&rt, &mut hall, &rows);
     assert!(rt; hall.len() == 1);
+    let desk = in_store(&rt, rt.alloc(), &g, 1, &rows);
+    stands(&rt, &desk, 1, 1, 0, &[]);
+    stands(&rt, &desk, 2, 0, 0, &[]);
     Ok(())
 }
 
-// On the graph of the seat a has r over c, and n is no vertex.
-fn rests_on_the_first(rt: &impl Abort, hall: &Hall, seat: u32) {
-    let Some(seen) = hall.graph(seat) else {
-        panic!(rt; "no seat");
+// Of p and q the graph has p.
+fn has_p(rt: &impl process::Abort, graph: &Graph) {
+    assert!(rt; graph.len() == MOST_VERTICES);
+    assert!(rt; graph.knows(name(rt, b'p')));
+    assert!(rt; !graph.knows(name(rt, b'q')));
+}
+
+// There is room for one vertex more, which the first seat's session takes.
+fn in_full_hall(rt: &impl process::Abort, alloc: Global, graph: &Graph, rows: &[Row]) {
+    let Ok(mut hall) = Hall::new(alloc, graph, 8, 2) else {
+        panic!(rt; "no hall");
     };
-    assert!(rt; seen.holds(name(rt, b'a'), Right::R, name(rt, b'c')));
-    assert!(rt; !seen.knows(name(rt, b'n')));
+    acts(rt, &mut hall, rows);
+    match hall.last() {
+        Ok(last) => has_p(rt, &last),
+        Err(_) => panic!(rt; "no graph"),
+    }
+    acts(rt, &mut hall, &[(2, Begin, Done), (2, Abort, Done)]);
+    events(rt, &mut hall, &[(2, Learn, Nothing)]);
+}
+
+// A record that crowds a session ends it when it is learnt, too.
+fn in_crowded_hall(rt: &impl process::Abort, alloc: Global, graph: &Graph) {
+    let Ok(mut hall) = Hall::new(alloc, graph, 8, 2) else {
+        panic!(rt; "no hall");
+    };
+    let rows = [
+        (1, Begin, Done),
+        (2, Begin, Done),
+        (1, Create(*b"0p", b"-"), Did),
+        (2, Create(*b"1q", b"-"), Did),
+        (1, PutOnce, Put(0)),
+        (2, Learn, Crowded(0)),
+    ];
+    events(rt, &mut hall, &rows);
+}
+
+// The second seat, which was crowded, begins again on what the first has done.
+fn in_full_store(rt: &impl process::Abort, alloc: Global, graph: &Graph, rows: &[Row]) {
+    let mut desk = in_store(rt, alloc, graph, 8, rows);
+    stands(rt, &desk, 2, 0, 4095, &[]);
+    desk.play(rt, &[(2, Begin, Done), (2, Abort, Done)]);
+    has_p(rt, desk.seat(rt, 1).graph());
+    has_p(rt, desk.seat(rt, 2).graph());
+    assert!(rt; desk.seat(rt, 2).taken() == 1);
+}
+
+// The graph is refused so.
+fn refused(
+    rt: &impl process::Abort,
+    alloc: Global,
+    graph: &Graph,
+    cells: usize,
+    seats: u32,
+    fault: StoreFault,
+) {
+    assert!(rt; Hall::new(alloc, graph, cells, seats).err() == Some(fault));
+    assert!(rt; Store::start(alloc, graph, cells, seats).err() == Some(fault));
+}
+
+#[test]
+fn full_graphs(rt: HostRuntime) -> Result<(), Fail> {
+    let alloc = rt.alloc();
+    let mut g = vertices(alloc, 4095)?;
+    let rows = [
+        (1, Begin, Done),
+        (2, Begin, Done),
+        (1, Create(*b"0p", b"-"), Did),
+        (2, Create(*b"1q", b"-"), Did),
+        (2, Create(*b"1s", b"-"), Full),
+        (1, Commit, Put(0)),
+        (2, Commit, Crowded(0)),
+    ];
+    in_full_hall(&rt, alloc, &g, &rows);
+    in_crowded_hall(&rt, alloc, &g);
+    in_full_store(&rt, alloc, &g, &rows);
+    g.add_vertex(name(&rt, b'p'))?;
+    g.add_vertex(name(&rt, b'q'))?;
+    refused(&rt, alloc, &g, 1, 1, StoreFault::TooManyVertices);
+    Ok(())
+}
+
+#[test]
+fn limits(rt: HostRuntime) {
+    let g = Graph::new(rt.alloc());
+    let rows = [
+        (0, 1, StoreFault::Cells),
+        (4097, 1, StoreFault::Cells),
+        (1, 0, StoreFault::Seats),
+        (1, 65, StoreFault::Seats),
+    ];
+    for (cells, seats, fault) in rows {
+        refused(&rt, rt.alloc(), &g, cells, seats, fault);
+    }
 }
 
 #[test]
 fn three_seats(rt: HostRuntime) -> Result<(), Fail> {
-    let mut hall = hall_over(&rt, rt.alloc(), b"abcd", &[*b"abt", *b"bcr"], 3)?;
-    begin_two(&rt, &mut hall);
-    begins(&rt, &mut hall, 3);
-    let first = take(&rt, b'a', b'b', b'c', b"r");
-    let second = create(&rt, name(&rt, b'd'), b'n', b"g");
-    let third = remove(&rt, b'd', b'n', b"g");
-    staged(&rt, &mut hall, 1, first, says(Reply::Done));
-    staged(&rt, &mut hall, 2, second, says(Reply::Done));
-    staged(&rt, &mut hall, 3, third, says_unknown(&rt, b'n'));
-    commits(&rt, &mut hall, 1, 0);
-    commits(&rt, &mut hall, 2, 1);
-    told(&rt, &mut hall, 3, Act::Commit, changed(&rt, 1, b'd'));
-    assert!(rt; hall.taken(3) == Some(1));
-    rests_on_the_first(&rt, &hall, 3);
+    let g = graph(&rt, rt.alloc(), b"abcd", &[*b"abt", *b"bcr"])?;
+    let mut hall = Hall::new(rt.alloc(), &g, 8, 3)?;
+    let rows = [
+        (1, Begin, Done),
+        (2, Begin, Done),
+        (3, Begin, Done),
+        (1, Take(*b"abc", b"r"), Did),
+        (2, Create(*b"dn", b"g"), Did),
+        (3, Remove(*b"dn", b"g"), Unknown(b'n')),
+        (1, Commit, Put(0)),
+        (2, Commit, Put(1)),
+        (3, Commit, Changed(1, b'd')),
+    ];
+    acts(&rt, &mut hall, &rows);
+    // it rests on the first record alone: n is no vertex there
+    rests(&rt, &hall, 3, 1, 4, &[(*b"ac", b"r")]);
     Ok(())
 }
 
@@ -174,99 +316,48 @@ fn three_seats(rt: HostRuntime) -> Result<(), Fail> {
 fn nine_events_in_one_run(rt: HostRuntime) -> Result<(), Fail> {
     let mut hall = hall_of_three(&rt, rt.alloc(), 4, 2)?;
     let replies = hall.run(&[
-        Event::Begin(1),
-        Event::Stage(1, take(&rt, b'a', b'b', b'c', b"r")),
-        Event::Put(1),
-        Event::Begin(2),
-        Event::Stage(2, holds(&rt, Right::R, b'a', b'c')),
-        Event::Put(2),
-        Event::Learn(2),
-        Event::Learn(2),
-        Event::Begin(3),
+        event_of(&rt, 1, Begin),
+        event_of(&rt, 1, Take(*b"abc", b"r")),
+        event_of(&rt, 1, PutOnce),
+        event_of(&rt, 2, Begin),
+        event_of(&rt, 2, Holds(Right::R, *b"ac")),
+        event_of(&rt, 2, PutOnce),
+        event_of(&rt, 2, Learn),
+        event_of(&rt, 2, Learn),
+        event_of(&rt, 3, Begin),
     ])?;
-    let wanted = [
-        HallReply::Done,
-        says(Reply::Done),
-        HallReply::Put(0),
-        HallReply::Done,
-        says(Reply::No),
-        changed(&rt, 0, b'a'),
-        HallReply::Learned(0),
-        HallReply::Nothing,
-        refused(HallFault::NoSeat),
+    let words = [
+        Done,
+        Did,
+        Put(0),
+        Done,
+        No,
+        Changed(0, b'a'),
+        Learned(0),
+        Nothing,
+        NoSeat,
     ];
-    assert!(rt; replies.as_slice() == wanted.as_slice());
-    ends_with(&rt, &hall, b'a', b'c', b"r")
+    assert!(rt; replies.as_slice().len() == words.len());
+    for (reply, word) in replies.as_slice().iter().zip(words.iter()) {
+        assert!(rt; *reply == reply_of(&rt, *word));
+    }
+    ends(&rt, &hall, 3, &[(*b"ac", b"r")]);
+    Ok(())
 }
 
 #[test]
 fn a_record_that_stands(rt: HostRuntime) -> Result<(), Fail> {
     let g = Graph::new(rt.alloc());
     let mut hall = Hall::new(rt.alloc(), &g, 4, 2)?;
-    begins(&rt, &mut hall, 2);
-    commits(&rt, &mut hall, 2, 0);
-    if let Some(record) = hall.at(0) {
-        assert!(rt; record.seat == 2 && record.number == 0 && record.steps.as_slice().is_empty());
-    } else {
-        assert!(rt; false);
+    acts(&rt, &mut hall, &[(2, Begin, Done), (2, Commit, Put(0))]);
+    match hall.at(0) {
+        Some(record) => {
+            assert!(rt; record.seat == 2);
+            assert!(rt; record.number == 0);
+            assert!(rt; record.steps.as_slice().is_empty());
+        }
+        None => panic!(rt; "no record"),
     }
     assert!(rt; hall.at(1).is_none());
-    Ok(())
-}
-
-#[test]
-fn faults_of_new(rt: HostRuntime) -> Result<(), Fail> {
-    let g = Graph::new(rt.alloc());
-    assert!(rt; fault_of(rt.alloc(), &g, 0, 1) == Some(StoreFault::Cells));
-    assert!(rt; fault_of(rt.alloc(), &g, 4097, 1) == Some(StoreFault::Cells));
-    assert!(rt; fault_of(rt.alloc(), &g, 1, 0) == Some(StoreFault::Seats));
-    assert!(rt; fault_of(rt.alloc(), &g, 1, 65) == Some(StoreFault::Seats));
-    let mut many = Graph::new(rt.alloc());
-    for number in 0..1025 {
-        many.add_vertex(Name::helper(number))?;
-    }
-    assert!(rt; fault_of(rt.alloc(), &many, 1, 1) == Some(StoreFault::TooManyVertices));
-    Ok(())
-}
-
-#[test]
-fn questions_after_a_commit(rt: HostRuntime) -> Result<(), Fail> {
-    let mut hall = hall_of_three(&rt, rt.alloc(), 8, 2)?;
-    begins(&rt, &mut hall, 1);
-    let rule = take(&rt, b'a', b'b', b'c', b"r");
-    staged(&rt, &mut hall, 1, rule, says(Reply::Done));
-    commits(&rt, &mut hall, 1, 0);
-    begins(&rt, &mut hall, 2);
-    let held = holds(&rt, Right::R, b'a', b'c');
-    let shared = share(&rt, Right::W, b'a', b'c');
-    staged(&rt, &mut hall, 2, held, says(Reply::Yes));
-    staged(&rt, &mut hall, 2, shared, says(Reply::No));
-    commits(&rt, &mut hall, 2, 1);
-    Ok(())
-}
-
-#[test]
-fn sharing_rests_on_all_names(rt: HostRuntime) -> Result<(), Fail> {
-    let mut hall = hall_of_three(&rt, rt.alloc(), 8, 2)?;
-    begin_two(&rt, &mut hall);
-    let shared = share(&rt, Right::W, b'a', b'c');
-    let rule = create(&rt, name(&rt, b'b'), b'n', b"-");
-    staged(&rt, &mut hall, 1, shared, says(Reply::No));
-    staged(&rt, &mut hall, 2, rule, says(Reply::Done));
-    commits(&rt, &mut hall, 2, 0);
-    told(&rt, &mut hall, 1, Act::Commit, changed(&rt, 0, b'b'));
-    Ok(())
-}
-
-#[test]
-fn sharing_and_an_empty_record(rt: HostRuntime) -> Result<(), Fail> {
-    let mut hall = hall_of_three(&rt, rt.alloc(), 8, 2)?;
-    begin_two(&rt, &mut hall);
-    let yes = share(&rt, Right::R, b'a', b'c');
-    let no = share(&rt, Right::W, b'a', b'c');
-    staged(&rt, &mut hall, 1, yes, says(Reply::Yes));
-    staged(&rt, &mut hall, 1, no, says(Reply::No));
-    commits(&rt, &mut hall, 2, 0);
-    commits(&rt, &mut hall, 1, 1);
     Ok(())
 }
