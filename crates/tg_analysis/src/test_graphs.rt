@@ -78,6 +78,7 @@ pub(crate) fn rule(rt: &impl Abort, line: &str) -> Rule {
         let rights = set(rt, last);
         return Rule::Create { x, n: y, rights };
     }
+    assert!(rt; kind == "take" || kind == "grant");
     let z = name(rt, last);
     let rights = set(rt, word(rt, &mut words));
     if kind == "take" {
