@@ -1,5 +1,4 @@
 pub mod Parting
-pub mod Small
 pub mod IslandTests
 pub mod RaceTurns
 pub mod RaceHistory

@@ -3,6 +3,8 @@
 ghost use Rattle.officer.specs.ReportLaws.{CanonicalTextsStay, DerivationsGiveTheRight, IslandsAreLines, RulesStopAtRefusal, ThereIsOneReport};
 ghost use Rattle.officer.specs.RunLaws.{RunsPrintReports};
 
+use tg_text::laws::equal_graphs_have_one_text;
+
 /// A report of rules shows those up to the first that is refused, and the graph that they lead to.
 pub fn rules_stop_at_refusal()
     ensures { RulesStopAtRefusal }
@@ -17,7 +19,9 @@ pub fn derivations_give_the_right()
 /// What is printed of a graph of at most `MOST_VERTICES` by `check` is printed again as it stands.
 pub fn canonical_texts_stay()
     ensures { CanonicalTextsStay }
-{}
+{
+    equal_graphs_have_one_text();
+}
 
 /// A command has one report for its texts, but that other rules may be found that give the right.
 pub fn there_is_one_report()

@@ -23,3 +23,4 @@ pub mod RuleBack
 pub mod GraphBack
 pub mod ScriptNumbers
 pub mod RulesBack
+pub mod SmallGraphs

@@ -1,5 +1,5 @@
 use Rattle.tg_graph.specs.GraphOf.{graph_of}
-use Rattle.officer.proofs.Small.{graph_is_small}
+use Rattle.tg_text.proofs.SmallGraphs.{graph_is_small}
 use Rattle.officer.proofs.inputs.graph_in.Goals as goal
 
 pub returns-in-Ok-clause-small : goal.returns-in-Ok-clause-small
