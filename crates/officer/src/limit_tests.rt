@@ -82,7 +82,7 @@ fn lines_too_long(rt: HostRuntime) -> Result<(), Fail> {
     Ok(())
 }
 
-// A graph of so many vertices is read.
+// A graph of so many vertices, named in this version, is read.
 fn holds<R: Abort + Threads + Sync + AllocGlobal>(
     rt: &R,
     version: &str,
@@ -114,6 +114,19 @@ fn most_vertices(rt: HostRuntime) -> Result<(), Fail> {
     holds_no_more(&rt, "", 1024, "vertex v0\n", twice)?;
     let more = b"refused graph line 1025 too-many-vertices\n";
     holds_no_more(&rt, "", 1024, "vertex v1024\n", more)?;
+    Ok(())
+}
+
+#[test]
+fn most_vertices_of_version_2(rt: HostRuntime) -> Result<(), Fail> {
+    let version = "version 2\n";
+    let least = b"version 2\nvertex v0\nvertex v1\nvertex v10\n";
+    holds(&rt, version, 1025, least, 1026)?;
+    holds(&rt, version, 4096, least, 4097)?;
+    let twice = b"refused graph line 4098 duplicate-vertex\n";
+    holds_no_more(&rt, version, 4096, "vertex v0\n", twice)?;
+    let more = b"refused graph line 4098 too-many-vertices\n";
+    holds_no_more(&rt, version, 4096, "vertex v4096\n", more)?;
     Ok(())
 }
 
@@ -163,16 +176,47 @@ fn most_cells(rt: HostRuntime) -> Result<(), Fail> {
     ends(&rt, &script, wanted)
 }
 
-// The lines of the vertices of a full graph, in name order: p first, and v0 to v1022 after it.
+// Two sessions that make three vertices.
+const MAKERS: &[u8] =
+    b"seats 2\ncells 8\n1 begin\n2 begin\n1 create v0 p -\n2 create v1 q -\n2 create v1 s -\n1 commit\n2 commit\n";
+
+// A graph that has as many vertices as a text of version 1 may have is not full.
+#[test]
+fn a_text_of_version_1_outgrown(rt: HostRuntime) -> Result<(), Fail> {
+    let graph = vertices(rt.alloc(), "", 1023, "")?;
+    let wanted =
+        b"3 1 done\n4 2 done\n5 1 done\n6 2 done\n7 2 done\n8 1 done 0\n9 2 done 1\ngraph\nversion 2\nvertex p\nvertex q\nvertex s\nvertex v0\nvertex v1\nvertex v10\n";
+    begins(&rt, Command::Run, &graph, MAKERS, wanted, 9 + 1026)
+}
+
+// The vertices of a full graph, in name order: p first, and v0 to v4094 after it.
 #[test]
 fn a_crowded_session(rt: HostRuntime) -> Result<(), Fail> {
-    let graph = vertices(rt.alloc(), "", 1023, "")?;
-    begins(
-        &rt,
-        Command::Run,
-        &graph,
-        b"seats 2\ncells 8\n1 begin\n2 begin\n1 create v0 p -\n2 create v1 q -\n2 create v1 s -\n1 commit\n2 commit\n",
-        b"3 1 done\n4 2 done\n5 1 done\n6 2 done\n7 2 refused full\n8 1 done 0\n9 2 refused crowded 0\ngraph\nvertex p\nvertex v0\nvertex v1\nvertex v10\n",
-        8 + 1024,
-    )
+    let graph = vertices(rt.alloc(), "version 2\n", 4095, "")?;
+    let wanted =
+        b"3 1 done\n4 2 done\n5 1 done\n6 2 done\n7 2 refused full\n8 1 done 0\n9 2 refused crowded 0\ngraph\nversion 2\nvertex p\nvertex v0\nvertex v1\nvertex v10\n";
+    begins(&rt, Command::Run, &graph, MAKERS, wanted, 9 + 4096)
+}
+
+// The table begins so, and has so many bytes in all.
+fn tables<R: Abort + Threads + Sync + AllocGlobal>(
+    rt: &R,
+    graph: &str,
+    wanted: &[u8],
+    bytes: usize,
+) -> Result<(), Fail> {
+    let (right, workers) = ("r", 4);
+    let table = Command::Table { right, workers };
+    let made = report(rt, rt.alloc(), &table, graph.as_bytes(), b"")?;
+    assert!(rt; made.status == 0);
+    assert!(rt; made.bytes.starts_with(wanted));
+    assert!(rt; made.bytes.len() == bytes);
+    Ok(())
+}
+
+// Of each of 1,025 vertices the name, a space, a digit for each, and a line feed.
+#[test]
+fn a_table_of_version_2(rt: HostRuntime) -> Result<(), Fail> {
+    let graph = vertices(rt.alloc(), "version 2\n", 1025, "edge v0 v1 r\n")?;
+    tables(&rt, &graph, b"v0 0100", 1_056_690)
 }

@@ -40,6 +40,8 @@ mod test_words;
 #[cfg(test)]
 mod tests;
 mod turns;
+#[cfg(test)]
+mod version_tests;
 pub mod words;
 
 use call::run;

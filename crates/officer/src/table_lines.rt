@@ -126,6 +126,9 @@ fn table_report<R: Threads + Sync>(
 }
 
 /// The report of a table: for each vertex a line, with a digit for each vertex, in name order.
+///
+/// The text is written in one pass over the table. It is held whole, with a byte for each two
+/// vertices, beside the table, which has one row for each island.
 pub(crate) fn table<R: Threads + Sync>(
     rt: &R,
     alloc: Global,
