@@ -98,7 +98,7 @@ NeverFull = (g : ProtectionGraph) (rule : Rule) → refusal_of g rule ≢ Some F
 abbrev pub RightsWordsExactly : Type 0
 RightsWordsExactly = (bytes : List ℕ) → MatchOption (set_of_letters bytes) (¬ IsRightsWord bytes) (λ s. IsRightsWord bytes × IsSetOf bytes s)
 
--- the letters of a set are those of its rights, in the order t g r w e
+-- the letters of a set are those of its rights, in the order t g r w e a d
 abbrev pub LettersInOrder : Type 0
 LettersInOrder = (s : Rights) → letters_of s ≡ in_order s
 
