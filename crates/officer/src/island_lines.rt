@@ -1,5 +1,5 @@
 //! The islands of a graph, as lines.
-ghost use Rattle.std.specs.Prelude.{◌≡◌, ◌++◌, ◌∷◌, IfOk, OnOk};
+ghost use Rattle.std.specs.Prelude.{◌≡◌, ◌++◌, ◌∷◌, [], false, IfOk, OnOk};
 ghost use Rattle.std.specs.Map.{keys_of};
 ghost use Rattle.std.specs.List.{flat_map};
 ghost use Rattle.tg_graph.specs.GraphOf.{graph_of};
@@ -70,14 +70,28 @@ fn with_number(
         .collect(alloc)
 }
 
+// Whether the name is the first of those with the number. The line of each other one is empty.
+fn is_first(entries: &[(Name, Option<usize>)], name: Name, number: Option<usize>) -> bool
+    ensures { result ≡ false → island_line name (with_number number entries.now) ≡ [] }
+{
+    for entry in entries {
+        if entry.1 == number {
+            return name == entry.0;
+        }
+    }
+    false
+}
+
 // The lines of the islands.
 fn lines_of(alloc: Global, entries: &[(Name, Option<usize>)]) -> Result<Vec<u8>, AllocError>
     ensures { IfOk result (λ text. text.items ≡ numbered_text entries.now) }
 {
     let mut text = Vec::new(alloc);
     for entry in entries {
-        let island = with_number(alloc, entries, entry.1)?;
-        append_line(&mut text, entry.0, &island)?;
+        if is_first(entries, entry.0, entry.1) {
+            let island = with_number(alloc, entries, entry.1)?;
+            append_line(&mut text, entry.0, &island)?;
+        }
     }
     Ok(text)
 }
