@@ -1,11 +1,13 @@
 -- The positions of a draft's vertices.
-use Rattle.std.proofs.Common.{◌≡◌, ℕ, zero, suc, ◌+◌, Bool, true, false, List, [], ◌∷◌, ◌++◌, length, map, Option, None, Some, MatchOption, refl, sym, ap, ◌∙◌, bytes_eq, is_some, true≢false, arith, ◌≤◌, ◌||◌}
+use Rattle.std.proofs.Common.{◌≡◌, ℕ, zero, suc, ◌+◌, Bool, true, false, List, [], ◌∷◌, ◌++◌, length, map, Option, None, Some, MatchOption, IfSome, get_or, refl, sym, ap, ◌∙◌, bytes_eq, is_some, true≢false, arith, ◌≤◌, ◌||◌}
 use Rattle.std.specs.Prelude.{if◌then◌else◌, slice_get, position}
 use Rattle.std.specs.List.{IsDistinct, AllByRecursion}
 use Rattle.std.proofs.lemmas.List.{length-append, map-append}
 use Rattle.std.proofs.lemmas.List.Folds.{list_any-append}
 use Rattle.std.proofs.lemmas.List.Quantifiers.{position-Some}
-use Rattle.std.proofs.lemmas.Option.{none-some, slice_get-get_or}
+use Rattle.std.proofs.Math.Bool.{or-true}
+use Rattle.std.proofs.lemmas.Option.{none-some, same_Some, slice_get-get_or}
+use Rattle.std.specs.Cmp.Lexicographic.{nat_list_eq_equiv}
 use Rattle.indexmap.specs.IndexSet.{insert_key, insert_all as set_all}
 use Rattle.tg_graph.specs.Drafts.{NotesPosition}
 use Rattle.tg_graph.proofs.NewNames.{is_among, set-push}
@@ -15,6 +17,20 @@ use Rattle.std.specs.Map.{keys_of}
 use Rattle.std.proofs.lemmas.Map.Made.{is_some-lookup}
 use Rattle.indexmap.proofs.MapLemmas.{some_index}
 use Rattle.tg_graph.specs.Rows.{Entries, is_known}
+
+-- ---- where a name stands
+pub at-position : (ks : List (List ℕ)) (v : List ℕ) (p : ℕ) → position (bytes_eq v) ks ≡ Some p → slice_get ks p ≡ Some v
+at-position ks v p e =
+    let h = position-Some (bytes_eq v) ks p v e in slice_get-get_or ks p v h.0 ∙ ap Some (sym (same_bytes v (get_or ks p v) h.1))
+
+pub place-of : (ks : List (List ℕ)) (v : List ℕ) (o : Option ℕ) → position (bytes_eq v) ks ≡ o → IfSome o (λ p. slice_get ks p ≡ Some v)
+place-of ks v None e = tt
+place-of ks v (Some p) e = at-position ks v p e
+
+pub among-at : (ks : List (List ℕ)) (v : List ℕ) (p : ℕ) → slice_get ks p ≡ Some v → is_among ks v ≡ true
+among-at [] v p e = absurd (none-some v e)
+among-at (k ∷ ks) v zero e = ap (λ b. b || is_among ks v) (ap (bytes_eq v) (same_Some k v e) ∙ nat_list_eq_equiv.refl v)
+among-at (k ∷ ks) v (suc p) e = ap (λ b. bytes_eq v k || b) (among-at ks v p e) ∙ or-true (bytes_eq v k)
 
 -- ---- what stands at a position stays there
 pub at-append : (xs ys : List (List ℕ)) (p : ℕ) (v : List ℕ) → slice_get xs p ≡ Some v → slice_get (xs ++ ys) p ≡ Some v

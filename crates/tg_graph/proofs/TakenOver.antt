@@ -1,13 +1,14 @@
 -- Rows that are taken over from another graph.
-use Rattle.std.proofs.Common.{◌≡◌, ℕ, zero, suc, ◌+◌, Bool, true, false, cond, List, [], ◌∷◌, ◌++◌, length, Option, None, Some, refl, sym, ap, subst, ◌∙◌, bytes_eq, IfSome, ◌||◌}
+use Rattle.std.proofs.Common.{◌≡◌, ℕ, zero, suc, Bool, true, false, cond, List, [], ◌∷◌, ◌++◌, length, Option, None, Some, refl, sym, ap, subst, ◌∙◌, bytes_eq, is_some, map, IfSome, ◌||◌}
 use Rattle.std.specs.Prelude.{if◌then◌else◌, slice_get, ⊤}
 use Rattle.std.specs.Option.{option_map_or}
 use Rattle.std.specs.List.{list_any, cons_option, IsDistinct, AllByRecursion}
-use Rattle.std.specs.Map.{keys_of, lookup}
+use Rattle.std.specs.Map.{keys_of, lookup, set_value}
 use Rattle.std.specs.Cmp.Lexicographic.{nat_list_eq_equiv}
 use Rattle.std.proofs.lemmas.List.{length-map}
 use Rattle.std.proofs.lemmas.List.Folds.{list_any-append}
 use Rattle.std.proofs.lemmas.Map.Entries.{lookup_from_place}
+use Rattle.std.proofs.lemmas.Map.Made.{is_some-lookup}
 use Rattle.std.proofs.lemmas.Option.{none-some, same_Some}
 use Rattle.indexmap.specs.IndexMap.{insert_entry, insert_all}
 use Rattle.indexmap.specs.IndexSet.{insert_key, insert_all as set_all}
@@ -17,7 +18,7 @@ use Rattle.tg_graph.specs.Rows.{Edges, Entries, IsGraph, IsRow, is_target, is_kn
 use Rattle.tg_graph.specs.Drafts.{entries_at, taken_over}
 use Rattle.tg_graph.proofs.NewNames.{is_among}
 use Rattle.tg_graph.proofs.Rows.{symm, same_bytes}
-use Rattle.tg_graph.proofs.Drafts.{lookup-put}
+use Rattle.tg_graph.proofs.Drafts.{lookup-put, put-set}
 
 -- ---- a row that is put in at its place
 pub set-at : (es : Entries) (i : ℕ) (n : List ℕ) (row : Edges) → IsDistinct bytes_eq (keys_of es) → slice_get (keys_of es) i ≡ Some n → set_value_at es i row ≡ insert_entry bytes_eq es n row
@@ -32,6 +33,19 @@ set-at (e ∷ es) (suc i) n row d at =
     other [] i h at = absurd (none-some n at)
     other (k ∷ ks) zero h at = ap (bytes_eq e.0) (sym (same_Some k n at)) ∙ h.0
     other (k ∷ ks) (suc i) h at = other ks i h.1 at
+
+-- the row at the place of a vertex is the vertex's
+pub row-at : (es : Entries) (i : ℕ) (n : List ℕ) (row : Edges) → IsDistinct bytes_eq (keys_of es) → slice_get (keys_of es) i ≡ Some n → slice_get (map (λ e. e.1) es) i ≡ Some row → lookup (bytes_eq n) es ≡ Some row
+row-at es i n row d name here = lookup_from_place nat_list_eq_equiv es i n row d (both es i name here)
+  where
+    both : (es : Entries) (i : ℕ) → slice_get (keys_of es) i ≡ Some n → slice_get (map (λ e. e.1) es) i ≡ Some row → slice_get es i ≡ Some (n, row)
+    both [] i name here = absurd (none-some n name)
+    both (e ∷ es) zero name here = λ k. Some (same_Some e.0 n name k, same_Some e.1 row here k)
+    both (e ∷ es) (suc i) name here = both es i name here
+
+-- and is set there
+pub set_value-at : (es : Entries) (i : ℕ) (n : List ℕ) (row after : Edges) → IsDistinct bytes_eq (keys_of es) → slice_get (keys_of es) i ≡ Some n → lookup (bytes_eq n) es ≡ Some row → set_value_at es i after ≡ set_value (bytes_eq n) es after
+set_value-at es i n row after d name found = set-at es i n after d name ∙ sym (put-set es n after (sym (is_some-lookup (bytes_eq n) es) ∙ ap is_some found))
 
 -- ---- what stands at the places
 -- each of the rows is that of the other graph

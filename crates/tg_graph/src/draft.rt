@@ -301,10 +301,7 @@ impl Draft {
         let changes = row_maps::shared(&self.rows)?;
         rows.reserve(self.created())?;
         row_maps::put_all(&mut rows, changes);
-        Ok(Graph {
-            rows,
-            alloc: base.alloc,
-        })
+        Ok(Graph::of_rows(rows, base.alloc))
     }
 }
 
@@ -341,10 +338,14 @@ impl Ready {
         ensures ok { IfOk result (λ ready. ready ≡ (base, draft)) }
         ensures err { IfErr result (λ parts. parts ≡ (base, draft)) }
     {
-        let Graph { mut rows, alloc } = base;
+        let Graph {
+            mut rows,
+            alloc,
+            ..
+        } = base;
         match rows.reserve(draft.created()) {
             Ok(()) => Ok(Ready { rows, alloc, draft }),
-            Err(AllocError) => Err((Graph { rows, alloc }, draft)),
+            Err(AllocError) => Err((Graph::of_rows(rows, alloc), draft)),
         }
     }
 
@@ -360,7 +361,7 @@ impl Ready {
         } = self;
         let Draft { rows: changed, .. } = draft;
         row_maps::put_all(&mut rows, changed);
-        Graph { rows, alloc }
+        Graph::of_rows(rows, alloc)
     }
 
     /// The graph and the draft.
@@ -368,7 +369,7 @@ impl Ready {
         ensures { result ≡ self }
     {
         let Ready { rows, alloc, draft } = self;
-        (Graph { rows, alloc }, draft)
+        (Graph::of_rows(rows, alloc), draft)
     }
 }
 

@@ -1,5 +1,5 @@
 //! Protection graphs.
-ghost use Rattle.std.specs.Prelude.{◌≡◌, ◌<◌, [], Some, None, true, false, IfOk, OnOk, OnErr, bytes_eq, length, slice_get, position, is_some, MatchBool, if◌then◌else◌};
+ghost use Rattle.std.specs.Prelude.{◌≡◌, ◌<◌, [], Some, None, true, false, IfOk, IfSome, OnOk, OnErr, bytes_eq, length, slice_get, position, is_some, MatchBool, if◌then◌else◌};
 ghost use Rattle.std.specs.Map.{keys_of, lookup};
 ghost use Rattle.indexmap.specs.IndexMap.{spare};
 ghost use Rattle.tg_graph.specs.Sets.{IsNamed};
@@ -32,6 +32,9 @@ use std::marker::Model;
 #[derive(Drop)]
 pub struct Graph {
     pub(crate) rows: IndexMap<Name, SharedRow>,
+    // The position of the source of the edge that was added last, which the next one mostly has
+    // too. It decides no answer.
+    source: usize,
     pub(crate) alloc: Global,
 }
 
@@ -124,6 +127,18 @@ impl Rows for Graph {
 }
 
 impl Graph {
+    // The graph that has these rows.
+    pub(crate) fn of_rows(rows: IndexMap<Name, SharedRow>, alloc: Global) -> Graph
+        requires { IsGraph rows.entries }
+        ensures { result ≡ rows.entries }
+    {
+        Graph {
+            rows,
+            source: 0,
+            alloc,
+        }
+    }
+
     // A copy of the row of a vertex.
     pub(crate) fn row_of(&self, x: Name) -> Result<SharedRow, AllocError>
         requires { is_known self.now x ≡ true }
@@ -141,10 +156,7 @@ impl Graph {
     pub fn new(alloc: Global) -> Graph
         ensures { result ≡ [] }
     {
-        Graph {
-            rows: IndexMap::new(alloc),
-            alloc,
-        }
+        Graph::of_rows(IndexMap::new(alloc), alloc)
     }
 
     /// How many vertices there are.
@@ -200,10 +212,11 @@ impl Graph {
         Ok(())
     }
 
-    // Adds an edge if there is none, and says whether there was none.
-    fn join(&mut self, x: Name, y: Name, rights: Rights) -> Result<bool, AllocError>
+    // Adds an edge out of the vertex x, which stands at the position, if there is none, and says
+    // whether there was none.
+    fn join(&mut self, source: usize, x: Name, y: Name, rights: Rights) -> Result<bool, AllocError>
         requires label { IsLabel rights }
-        requires source { has_vertex (graph_of self.old) x ≡ true }
+        requires source { slice_get (keys_of self.old) source ≡ Some x }
         requires target { has_vertex (graph_of self.old) y ≡ true }
         ensures said { IfOk result
             (λ added. added ≡ is_empty_set (label_between (graph_of self.old) x y)) }
@@ -215,7 +228,7 @@ impl Graph {
             (is_empty_set (label_between (graph_of self.old) x y) ≡ true) }
         ensures err { OnErr result (self.new ≡ self.old) }
     {
-        let Some(row) = self.rows.get_mut(&x) else {
+        let Some(row) = self.rows.get_index_mut(source) else {
             return Ok(false);
         };
         let added = row.add_new(y, rights)?;
@@ -299,25 +312,23 @@ impl Graph {
         Ok(())
     }
 
-    // The position of the next target of a vertex with edges to the first ones, as in a text of all
-    // pairs, or `None` for a name that is no vertex.
-    fn next_target(&self, x: Name) -> Option<usize>
-        ensures { is_some result ≡ has_vertex (graph_of self.now) x }
+    // The position of a vertex, looked for at a position first. That one decides no answer.
+    fn position_near(&self, guess: usize, name: Name) -> Option<usize>
+        ensures place { IfSome result (λ place. slice_get (keys_of self.now) place ≡ Some name) }
+        ensures known { is_some result ≡ has_vertex (graph_of self.now) name }
     {
-        match self.row(x) {
-            Some(row) => Some(row.len()),
-            None => None,
+        if row_maps::stands_at(&self.rows, name, guess) {
+            Some(guess)
+        } else {
+            self.position(name)
         }
     }
 
-    // Whether a name is a vertex, looked for at a position first. The position decides no answer.
-    fn knows_at(&self, position: usize, name: Name) -> bool
+    // Whether a name is a vertex, looked for at a position first. That one decides no answer.
+    fn knows_near(&self, guess: usize, name: Name) -> bool
         ensures { result ≡ has_vertex (graph_of self.now) name }
     {
-        match self.rows.get_index(position) {
-            Some((found, _)) if *found == name => true,
-            _ => self.knows(name),
-        }
+        self.position_near(guess, name).is_some()
     }
 
     // Why an edge from x to y with no rights is not added.
@@ -338,16 +349,19 @@ impl Graph {
         ensures added { AddsEdge (graph_of self.old) x y rights result (graph_of self.new) }
         ensures kept { OnErr result (self.new ≡ self.old) }
     {
-        let Some(guess) = self.next_target(x) else {
+        let Some(source) = self.position_near(self.source, x) else {
             return Err(EdgeFault::Unknown(x));
         };
-        if !self.knows_at(guess, y) {
+        // A text of all pairs has a vertex's targets in the order of the vertices.
+        let next_target = self.row_len(source);
+        if !self.knows_near(next_target, y) {
             return Err(EdgeFault::Unknown(y));
         }
         if rights.is_empty() {
             return Err(self.fault_of_no_rights(x, y));
         }
-        if self.join(x, y, rights)? {
+        if self.join(source, x, y, rights)? {
+            self.source = source;
             Ok(())
         } else {
             Err(EdgeFault::EdgeThere)
@@ -381,10 +395,8 @@ impl Graph {
     pub fn copy(&self) -> Result<Graph, AllocError>
         ensures { IfOk result (λ copy. copy ≡ self.now) }
     {
-        Ok(Graph {
-            rows: row_maps::shared(&self.rows)?,
-            alloc: self.alloc,
-        })
+        let rows = row_maps::shared(&self.rows)?;
+        Ok(Graph::of_rows(rows, self.alloc))
     }
 
     /// A copy that shares nothing with this graph, for another thread: neither of them then touches
@@ -392,10 +404,8 @@ impl Graph {
     pub fn copy_unshared(&self) -> Result<Graph, AllocError>
         ensures { IfOk result (λ copy. copy ≡ self.now) }
     {
-        Ok(Graph {
-            rows: row_maps::unshared(self.alloc, &self.rows)?,
-            alloc: self.alloc,
-        })
+        let rows = row_maps::unshared(self.alloc, &self.rows)?;
+        Ok(Graph::of_rows(rows, self.alloc))
     }
 
     /// Takes over the vertices at some positions of another graph, in turn, each with its row: into

@@ -110,8 +110,8 @@ pub fn taken_at(
     Ok(taken)
 }
 
-// Whether a vertex stands at a place.
-fn stands_at(rows: &IndexMap<Name, SharedRow>, n: Name, place: usize) -> bool
+/// Whether a vertex stands at a place.
+pub fn stands_at(rows: &IndexMap<Name, SharedRow>, n: Name, place: usize) -> bool
     ensures stands { result ≡ true → slice_get (keys_of rows.now.entries) place ≡ Some n }
     ensures apart { IsDistinct bytes_eq (keys_of rows.now.entries) }
 {

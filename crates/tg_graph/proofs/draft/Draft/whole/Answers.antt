@@ -14,8 +14,8 @@ put_all-requires c =
     let joined : length (insert_all bytes_eq c.reserve.new.self.entries c.in_ok-changes.changes.entries) ≡ length (insert_all bytes_eq base rows) = λ i. length (insert_all bytes_eq (same i) (c.in_ok-changes.ensures i)) in
     record { room = omega (arith, joined, ap length same, length-laid base (rows, c.self.inside.created.items) f, ap (λ d. length d.1) c.self.view_is, c.in_ok-reserve.ensures.ok, c.created.ensures.value) }
 
-pub invariant_of-result : goal.invariant_of-result
-invariant_of-result c =
+pub of_rows-requires : goal.of_rows-requires
+of_rows-requires c =
     let base = c.base.inside.rows.entries in
     let rows = c.self.inside.rows.entries in
     let same = c.in_ok-reserve.ensures.entries ∙ c.in_ok-rows.ensures in
