@@ -1,27 +1,30 @@
 -- A flood from one vertex: what was met stays in its island, and at the end is all of it.
-use Rattle.std.proofs.Common.{◌≡◌, ℕ, ◌+◌, ◌*◌, cond, ◌<◌, ◌≤◌, Bool, true, false, ◌&&◌, ◌⊎◌, inl, inr, List, [], ◌∷◌, ◌++◌, length, replicate, Option, Some, None, get_or, slice_get, is_some, nat_eq, bytes_eq, refl, sym, ap, ◌∙◌, subst, IsTrue, arith, length-append}
+use Rattle.std.proofs.Common.{◌≡◌, ℕ, ◌+◌, ◌*◌, cond, ◌<◌, ◌≤◌, Bool, true, false, ◌&&◌, ◌⊎◌, inl, inr, List, [], ◌∷◌, ◌++◌, length, replicate, Option, Some, None, get_or, slice_get, is_some, nat_eq, bytes_eq, refl, sym, ap, ◌∙◌, subst, IsTrue, arith, lit<, length-append}
 use Rattle.std.specs.Prelude.{not, count_by, MatchBool}
 use Rattle.std.specs.List.{list_any, position}
 use Rattle.std.specs.Map.{keys_of}
 use Rattle.std.specs.Option.{option_and_then}
-use Rattle.std.proofs.lemmas.Bool.{true≢false, cases_lt, or_cases, or_left, or_right, eq-eqb, eqb-true}
+use Rattle.std.proofs.lemmas.Bool.{true≢false, cases_Bool, cases_lt, or_cases, or_left, or_right, eq-eqb, eqb-true}
 use Rattle.std.proofs.lemmas.List.{get_or-replicate, length-replicate}
 use Rattle.std.proofs.Math.ListN.{get_or-eq_default}
 use Rattle.std.proofs.lemmas.Option.{slice_get_within, slice_get-get_or}
 use Rattle.std.proofs.lemmas.List.Folds.{sum_by-replicate}
 use Rattle.std.proofs.lemmas.Map.Entries.{length-keys_of}
 use Rattle.tg_graph.specs.declared.right_sets.Right.{Right}
+use Rattle.tg_graph.specs.declared.right_sets.Rights.{Rights}
+use Rattle.tg_graph.specs.Sets.{member, rights_where, is_empty_set, nothing, IsNamed}
+use Rattle.tg_graph.proofs.Sets.{member-where, member-nothing, named-where, same_set}
 use Rattle.tg_graph.specs.Graphs.{Name, ProtectionGraph, has_vertex, WellFormed}
 use Rattle.tg_graph.specs.GraphOf.{graph_of}
-use Rattle.tg_graph.specs.Rows.{Entries, IsGraph, row_number}
+use Rattle.tg_graph.specs.Rows.{Entries, IsGraph, row_number, label_in}
 use Rattle.tg_analysis.specs.declared.flooding.Flood.{Flood}
 use Rattle.tg_analysis.specs.declared.spreading.Asked.{Asked}
 use Rattle.tg_analysis.specs.declared.spreading.Spread.{Spread}
 use Rattle.tg_analysis.specs.Sharing.{linked, InOneIsland, HeldInIsland}
 use Rattle.tg_analysis.specs.Linked.{neighbours, is_near, linked_end, AddsNeighbour}
 use Rattle.tg_analysis.specs.Flooding.{number_in, number_at, work_left, IsOneOf, Meets, MeetsEnds}
-use Rattle.tg_analysis.specs.Spreading.{IsMet, HasRight, HoldsAt, BeginsAt, Follows, FollowsOn, ReadsEdge, ReadsUpTo, ReadsMet, Reads, IsSpread, HasRead, IsAtRest, RunsOut}
-use Rattle.tg_analysis.proofs.Places.{position-at, place_of, place-known, holds-place, place-holds}
+use Rattle.tg_analysis.specs.Spreading.{IsMet, HoldsAt, HoldsNone, IsMissing, BeginsAt, Follows, FollowsOn, ReadsEdge, ReadsUpTo, ReadsMet, Reads, IsSpread, HasRead, IsAtRest, RunsOut}
+use Rattle.tg_analysis.proofs.Places.{position-at, place_of, place-known, holds-row}
 use Rattle.tg_analysis.proofs.OneIsland.{linked_sym, island_refl, island_link, island_trans}
 use Rattle.tg_analysis.proofs.Linked.{edge-linked, linked-edge, row_past, row_there, end_within, place_within}
 use Rattle.tg_analysis.proofs.Floods.{flood_has_island}
@@ -59,31 +62,9 @@ number_within numbers a h = go (cases_lt a (length numbers))
     go (inl lt) = lt
     go (inr le) = absurd (true≢false (sym h ∙ ap is_some (get_or-eq_default numbers None le)))
 
--- ---- who holds the right, by rows
-pub holds_in_row : (es : Entries) → IsGraph es → (right : Right) (y : Name) (a place : ℕ) → HasRight es right y a place → HoldsAt (graph_of es) right y a
-holds_in_row es ok right y a place h = record {
-  name = name;
-  place = there;
-  holds = holds-place es ok a name there place y h.label right h.edge ∙ h.has;
-}
-  where
-    within : a < length (keys_of es)
-    within = go (cases_lt a (length (keys_of es))) h.edge
-      where
-        go : (a < length (keys_of es)) ⊎ (length (keys_of es) ≤ a) → slice_get (row_number es a) place ≡ Some (y, h.label) → a < length (keys_of es)
-        go (inl lt) e = lt
-        go (inr le) e = let past = ap (λ row. slice_get row place) (row_past es a (omega (arith, le, length-keys_of es))) in absurd (cc)
-
-    name : Name
-    name = get_or (keys_of es) a []
-
-    there : slice_get (keys_of es) a ≡ Some name
-    there = slice_get-get_or (keys_of es) a [] within
-
-pub row_of_holder : (es : Entries) → IsGraph es → (right : Right) (y : Name) (a : ℕ) → HoldsAt (graph_of es) right y a → (place : ℕ) × (place < length (row_number es a)) × HasRight es right y a place
-row_of_holder es ok right y a h =
-    let found = place-holds es ok a h.name h.place right y h.holds in
-    (found.0, slice_get_within (row_number es a) found.0 (y, found.1) found.2, record { label = found.1; edge = found.2; has = found.3 })
+-- the empty set has no member
+pub none_among : (s : Rights) → IsTrue (is_empty_set s) → (right : Right) → IsTrue (member s right) → ⊥
+none_among s e right m = true≢false (sym m ∙ ap (λ n. member (record { 0 = n }) right) (eqb-true s.0 0 e) ∙ member-nothing right)
 
 -- ---- a row is read
 module _ (es : Entries) (i : ℕ) where
@@ -176,11 +157,11 @@ module _ (es : Entries) (ok : IsGraph es) (asked : Asked) where
       link (place, inr e) = linked_sym g v u (edge-linked es ok b place a v u q p e)
 
   -- ---- positions are met
-  pub spread-meets : (pending later ps : List ℕ) (s t : Spread) → IsSpread es asked pending s → Meets ps s.flood t.flood → t.back ≡ s.back → t.followed ≡ s.followed
+  pub spread-meets : (missing : Rights) (pending later ps : List ℕ) (s t : Spread) → IsSpread es asked missing pending s → Meets ps s.flood t.flood → t.back ≡ s.back → t.followed ≡ s.followed
       → ((a : ℕ) → IsOneOf a ps → (c : ℕ) × IsMet s c × Edge a c)
       → ((a : ℕ) → IsOneOf a pending → IsOneOf a later) → ((a : ℕ) → IsOneOf a t.flood.waiting.items → IsOneOf a later) → ((a : ℕ) → IsOneOf a later → IsMet t a)
-      → IsSpread es asked later t
-  spread-meets pending later ps s t is m back followed reach keep fresh pends = record {
+      → IsSpread es asked missing later t
+  spread-meets missing pending later ps s t is m back followed reach keep fresh pends = record {
     len = m.len ∙ is.len;
     back_len = ap length back ∙ is.back_len;
     count = omega (arith, is.count, m.work, followed);
@@ -210,7 +191,7 @@ module _ (es : Entries) (ok : IsGraph es) (asked : Asked) where
           turn (place, inl e) = (place, inr e)
           turn (place, inr e) = (place, inl e)
 
-      none : (a : ℕ) → IsMet s a ⊎ (IsOneOf a ps × IsOneOf a t.flood.waiting.items) → IsOneOf a later ⊎ (HoldsAt g asked.right asked.y a → ⊥)
+      none : (a : ℕ) → IsMet s a ⊎ (IsOneOf a ps × IsOneOf a t.flood.waiting.items) → IsOneOf a later ⊎ HoldsNone g missing asked.y a
       none a (inl h) = elim (is.none a h) [ inl w ↦ inl (keep a w) | inr n ↦ inr n ]
       none a (inr h) = inl (fresh a h.1)
 
@@ -223,8 +204,8 @@ module _ (es : Entries) (ok : IsGraph es) (asked : Asked) where
       behind a b near (inr h) = inl (fresh b h.1)
 
   -- ---- a position is done
-  spread-drop : (p : ℕ) (rest : List ℕ) (s : Spread) → IsSpread es asked (p ∷ rest) s → (HoldsAt g asked.right asked.y p → ⊥) → ((place b : ℕ) → linked_end es p place ≡ Some b → IsMet s b) → ((a : ℕ) → is_near s.back p a ≡ true → IsMet s a) → IsSpread es asked rest s
-  spread-drop p rest s is idle ahead behind = record {
+  spread-drop : (missing : Rights) (p : ℕ) (rest : List ℕ) (s : Spread) → IsSpread es asked missing (p ∷ rest) s → HoldsNone g missing asked.y p → ((place b : ℕ) → linked_end es p place ≡ Some b → IsMet s b) → ((a : ℕ) → is_near s.back p a ≡ true → IsMet s a) → IsSpread es asked missing rest s
+  spread-drop missing p rest s is idle ahead behind = record {
     len = is.len;
     back_len = is.back_len;
     count = is.count;
@@ -240,8 +221,8 @@ module _ (es : Entries) (ok : IsGraph es) (asked : Asked) where
       split : (a : ℕ) → IsOneOf a (p ∷ rest) → (a ≡ p) ⊎ IsOneOf a rest
       split a h = elim (or_cases (nat_eq a p) (list_any (nat_eq a) rest) h) [ inl e ↦ inl (eqb-true a p e) | inr e ↦ inr e ]
 
-      none : (a : ℕ) → IsOneOf a (p ∷ rest) ⊎ (HoldsAt g asked.right asked.y a → ⊥) → IsOneOf a rest ⊎ (HoldsAt g asked.right asked.y a → ⊥)
-      none a (inl h) = elim (split a h) [ inl e ↦ inr (λ holds. idle (subst (λ n. HoldsAt g asked.right asked.y n) e holds)) | inr w ↦ inl w ]
+      none : (a : ℕ) → IsOneOf a (p ∷ rest) ⊎ HoldsNone g missing asked.y a → IsOneOf a rest ⊎ HoldsNone g missing asked.y a
+      none a (inl h) = elim (split a h) [ inl e ↦ inr (subst (λ n. HoldsNone g missing asked.y n) (sym e) idle) | inr w ↦ inl w ]
       none a (inr n) = inr n
 
       further : (a place b : ℕ) → linked_end es a place ≡ Some b → IsOneOf a (p ∷ rest) ⊎ IsMet s b → IsOneOf a rest ⊎ IsMet s b
@@ -253,8 +234,8 @@ module _ (es : Entries) (ok : IsGraph es) (asked : Asked) where
       back a b near (inr n) = inr n
 
   -- the last of those that wait is taken
-  pub spread-takes : (p : ℕ) (old new : Spread) → IsSpread es asked old.flood.waiting.items old → TakesLast p old.flood new.flood → new.back ≡ old.back → new.followed ≡ old.followed + 1 → IsSpread es asked (p ∷ new.flood.waiting.items) new
-  spread-takes p old new is takes back followed = record {
+  pub spread-takes : (missing : Rights) (p : ℕ) (old new : Spread) → IsSpread es asked missing old.flood.waiting.items old → TakesLast p old.flood new.flood → new.back ≡ old.back → new.followed ≡ old.followed + 1 → IsSpread es asked missing (p ∷ new.flood.waiting.items) new
+  spread-takes missing p old new is takes back followed = record {
     len = ap (λ numbers. length numbers.items) takes.numbers ∙ is.len;
     back_len = ap length back ∙ is.back_len;
     count = omega (arith, is.count, followed, ap length takes.waiting, length-append new.flood.waiting.items (p ∷ []), ap (λ numbers. count_by (λ number. not (is_some number)) numbers.items) takes.numbers);
@@ -282,18 +263,64 @@ module _ (es : Entries) (ok : IsGraph es) (asked : Asked) where
       waited : (a : ℕ) → IsOneOf a (p ∷ new.flood.waiting.items) → IsOneOf a old.flood.waiting.items
       waited a h = subst (IsOneOf a) (sym takes.waiting) (elim (or_cases (nat_eq a p) (list_any (nat_eq a) new.flood.waiting.items) h) [ inl e ↦ one_of-right a new.flood.waiting.items (p ∷ []) (subst (λ n. IsOneOf n (p ∷ [])) (sym (eqb-true a p e)) (single-one_of p)) | inr w ↦ one_of-left a new.flood.waiting.items (p ∷ []) w ])
 
-  -- a holder that was taken lies in x's island
-  pub taken_holds : (p : ℕ) (rest : List ℕ) (s : Spread) → IsSpread es asked (p ∷ rest) s → HoldsAt g asked.right asked.y p → HeldInIsland g asked.right asked.x asked.y
-  taken_holds p rest s is h = (h.name, h.holds, is.inside p h.name h.place (is.pends p (or_left (nat_eq p p) _ (eq-eqb p p refl))))
+  -- ---- what a position holds is missing no more
+  module _ (p : ℕ) (missing held left : Rights) (is_held : held ≡ label_in (row_number es p) asked.y) (is_left : left ≡ rights_where (λ right. member missing right && not (member held right))) where
+    left_has : (right : Right) → member left right ≡ (member missing right && not (member held right))
+    left_has right = ap (λ s. member s right) is_left ∙ member-where (λ one. member missing one && not (member held one)) right
+
+    holds_at : (u : Name) → slice_get (keys_of es) p ≡ Some u → (right : Right) → g.holds u right asked.y ≡ member held right
+    holds_at u at right = holds-row es ok p u at right asked.y ∙ ap (λ s. member s right) (sym is_held)
+
+    of_left : (right : Right) → IsTrue (member left right) → IsTrue (member missing right) × (member held right ≡ false)
+    of_left right m = parts (member missing right) (member held right) (sym (left_has right) ∙ m)
+      where
+        parts : (a b : Bool) → (a && not b) ≡ true → (a ≡ true) × (b ≡ false)
+        parts true false h = (refl, refl)
+        parts true true h = absurd (true≢false (sym h))
+        parts false b h = absurd (true≢false (sym h))
+
+    pub still_missing : (rest : List ℕ) (s : Spread) → IsSpread es asked missing (p ∷ rest) s → IsMissing es asked missing → IsMissing es asked left
+    still_missing rest s is m = record {
+      named = subst IsNamed (sym is_left) (named-where (λ right. member missing right && not (member held right)));
+      among = λ right h. m.among right (of_left right h).0;
+      found = λ right h. by right (m.found right h);
+    }
+      where
+        met : IsMet s p
+        met = is.pends p (or_left (nat_eq p p) _ (eq-eqb p p refl))
+
+        reached : (right : Right) → member held right ≡ true → HeldInIsland g right asked.x asked.y
+        reached right e = let at = vertex_at s p is.len met in (at.0, holds_at at.0 at.1 right ∙ e, is.inside p at.0 at.1 met)
+
+        by : (right : Right) → IsTrue (member missing right) ⊎ HeldInIsland g right asked.x asked.y → IsTrue (member left right) ⊎ HeldInIsland g right asked.x asked.y
+        by right (inl m) = elim (cases_Bool (member held right)) [ inl e ↦ inr (reached right e) | inr e ↦ inl (left_has right ∙ (λ i. m i && not (e i))) ]
+        by right (inr h) = inr h
+
+    pub holds_no_other : HoldsNone g left asked.y p
+    holds_no_other right m h = true≢false (sym h.holds ∙ holds_at h.name h.place right ∙ (of_left right m).1)
+
+    pub spread-narrows : (pending : List ℕ) (s : Spread) → IsSpread es asked missing pending s → IsSpread es asked left pending s
+    spread-narrows pending s is = record {
+      len = is.len;
+      back_len = is.back_len;
+      count = is.count;
+      back_from = is.back_from;
+      inside = is.inside;
+      start = is.start;
+      pends = is.pends;
+      none = λ a h. elim (is.none a h) [ inl w ↦ inl w | inr n ↦ inr (λ right m. n right (of_left right m).0) ];
+      ahead = is.ahead;
+      behind = is.behind;
+    }
 
   -- ---- what is linked to a position is met
-  module _ (p : ℕ) where
+  module _ (missing : Rights) (p : ℕ) where
     first : (rest : List ℕ) → IsOneOf p (p ∷ rest)
     first rest = or_left (nat_eq p p) _ (eq-eqb p p refl)
 
-    spread-from : (ps : List ℕ) (s t : Spread) → IsSpread es asked (p ∷ s.flood.waiting.items) s → Meets ps s.flood t.flood → t.back ≡ s.back → t.followed ≡ s.followed → ((a : ℕ) → IsOneOf a ps → Edge a p) → IsSpread es asked (p ∷ t.flood.waiting.items) t
+    spread-from : (ps : List ℕ) (s t : Spread) → IsSpread es asked missing (p ∷ s.flood.waiting.items) s → Meets ps s.flood t.flood → t.back ≡ s.back → t.followed ≡ s.followed → ((a : ℕ) → IsOneOf a ps → Edge a p) → IsSpread es asked missing (p ∷ t.flood.waiting.items) t
     spread-from ps s t is m back followed reach =
-        spread-meets (p ∷ s.flood.waiting.items) (p ∷ t.flood.waiting.items) ps s t is m back followed (λ a h. (p, is.pends p (first s.flood.waiting.items), reach a h)) (λ a h. elim (split a s.flood.waiting.items h) [ inl e ↦ or_left (nat_eq a p) _ e | inr w ↦ or_right (nat_eq a p) _ (m.still_waits a w) ]) (λ a h. or_right (nat_eq a p) _ h) (λ a h. pends a (split a t.flood.waiting.items h))
+        spread-meets missing (p ∷ s.flood.waiting.items) (p ∷ t.flood.waiting.items) ps s t is m back followed (λ a h. (p, is.pends p (first s.flood.waiting.items), reach a h)) (λ a h. elim (split a s.flood.waiting.items h) [ inl e ↦ or_left (nat_eq a p) _ e | inr w ↦ or_right (nat_eq a p) _ (m.still_waits a w) ]) (λ a h. or_right (nat_eq a p) _ h) (λ a h. pends a (split a t.flood.waiting.items h))
       where
         split : (a : ℕ) (rest : List ℕ) → IsOneOf a (p ∷ rest) → (nat_eq a p ≡ true) ⊎ IsOneOf a rest
         split a rest h = or_cases (nat_eq a p) (list_any (nat_eq a) rest) h
@@ -302,12 +329,12 @@ module _ (es : Entries) (ok : IsGraph es) (asked : Asked) where
         pends a (inl e) = some_kept s.flood t.flood m.kept a (is.pends a (or_left (nat_eq a p) _ e))
         pends a (inr w) = waits_met ps s.flood t.flood m (λ b h. is.pends b (or_right (nat_eq b p) _ h)) a w
 
-    pub spread-follows : (s t : Spread) → IsSpread es asked (p ∷ s.flood.waiting.items) s → (HoldsAt g asked.right asked.y p → ⊥) → FollowsOn es p s t → IsSpread es asked t.flood.waiting.items t
+    pub spread-follows : (s t : Spread) → IsSpread es asked missing (p ∷ s.flood.waiting.items) s → HoldsNone g missing asked.y p → FollowsOn es p s t → IsSpread es asked missing t.flood.waiting.items t
     spread-follows s t is idle (inl f) =
         let between : Spread = record { flood = f.between; back = s.back; followed = s.followed } in
-        spread-drop p t.flood.waiting.items t (spread-from (neighbours s.back p) between t (spread-from f.ahead.positions s between is f.ahead.meets refl refl (λ a h. let e = f.ahead.only a h in (e.0, inr e.1))) f.behind f.back f.followed (λ a h. let e = is.back_from a p h in (e.0, inl e.1))) idle (λ place b e. some_kept f.between t.flood f.behind.kept b (f.ahead.meets.met b (f.ahead.all place b (place_within es p place b e) e))) (λ a near. f.behind.met a (ap (λ lists. is_near lists p a) (sym f.back) ∙ near))
+        spread-drop missing p t.flood.waiting.items t (spread-from (neighbours s.back p) between t (spread-from f.ahead.positions s between is f.ahead.meets refl refl (λ a h. let e = f.ahead.only a h in (e.0, inr e.1))) f.behind f.back f.followed (λ a h. let e = is.back_from a p h in (e.0, inl e.1))) idle (λ place b e. some_kept f.between t.flood f.behind.kept b (f.ahead.meets.met b (f.ahead.all place b (place_within es p place b e) e))) (λ a near. f.behind.met a (ap (λ lists. is_near lists p a) (sym f.back) ∙ near))
     spread-follows s t is idle (inr all) =
-        subst (λ u. IsSpread es asked u.flood.waiting.items u) (sym all.1) (spread-drop p s.flood.waiting.items s is idle (λ place b e. all.0 b (end_within es ok p place b e)) (λ a near. let e = is.back_from a p near in all.0 a (row_there es ok a e.0 p e.1)))
+        subst (λ u. IsSpread es asked missing u.flood.waiting.items u) (sym all.1) (spread-drop missing p s.flood.waiting.items s is idle (λ place b e. all.0 b (end_within es ok p place b e)) (λ a near. let e = is.back_from a p near in all.0 a (row_there es ok a e.0 p e.1)))
 
   -- ---- what was there stays
   pub follows_back : (p : ℕ) (s t : Spread) → FollowsOn es p s t → t.back ≡ s.back
@@ -321,17 +348,17 @@ module _ (es : Entries) (ok : IsGraph es) (asked : Asked) where
   -- ---- a row is read
   module _ (i : ℕ) where
     -- and the flood goes on
-    pub rests : (H : Type 0) (found : Bool) (s t : Spread) → HasRead es (i + 1) s → MatchBool found H (RunsOut es asked s t) → MatchBool found H (IsAtRest es asked (i + 1) t)
-    rests H true s t read ran = ran
-    rests H false s t read ran = record {
+    pub rests : (left : Rights) (s t : Spread) → HasRead es (i + 1) s → IsTrue (is_empty_set left) ⊎ RunsOut es asked left s t → IsTrue (is_empty_set left) ⊎ IsAtRest es asked left (i + 1) t
+    rests left s t read (inl none) = inl none
+    rests left s t read (inr ran) = inr (record {
       is_spread = ran.is_spread;
       calm = ran.calm;
       read = λ a place b lt e. elim (read a place b lt e) [ inl met ↦ inl (ran.grows a met) | inr near ↦ inr (ap (λ lists. is_near lists b a) ran.back ∙ near) ];
-    }
+    })
 
     -- the lists have grown by edges to what was not met
-    spread-notes : (here : ℕ) (s t : Spread) → IsSpread es asked [] s → ReadsUpTo es i here s t → IsSpread es asked [] t
-    spread-notes here s t is r = record {
+    spread-notes : (missing : Rights) (here : ℕ) (s t : Spread) → IsSpread es asked missing [] s → ReadsUpTo es i here s t → IsSpread es asked missing [] t
+    spread-notes missing here s t is r = record {
       len = ap (λ flood. length flood.numbers.items) r.flood ∙ is.len;
       back_len = r.len ∙ is.back_len;
       count = omega (arith, is.count, ap work_left r.flood, r.followed);
@@ -358,9 +385,9 @@ module _ (es : Entries) (ok : IsGraph es) (asked : Asked) where
         behind a b h (inl near) = elim (is.behind a b h near) [ inl w ↦ inl w | inr n ↦ inr (now a n) ]
         behind a b h (inr new) = absurd (new.1 h)
 
-    pub spread-reads : (s t : Spread) → IsSpread es asked [] s → s.flood.waiting.items ≡ [] → HasRead es i s → Reads es i s t → IsSpread es asked t.flood.waiting.items t × HasRead es (i + 1) t
-    spread-reads s t is calm read (inl r) =
-        (subst (λ waiting. IsSpread es asked waiting t) (sym (ap (λ flood. flood.waiting.items) r.flood ∙ calm)) (spread-notes (length (row_number es i)) s t is r), λ a place b h e. cases a place b e (cases_lt a i) h)
+    pub spread-reads : (missing : Rights) (s t : Spread) → IsSpread es asked missing [] s → s.flood.waiting.items ≡ [] → HasRead es i s → Reads es i s t → IsSpread es asked missing t.flood.waiting.items t × HasRead es (i + 1) t
+    spread-reads missing s t is calm read (inl r) =
+        (subst (λ waiting. IsSpread es asked missing waiting t) (sym (ap (λ flood. flood.waiting.items) r.flood ∙ calm)) (spread-notes missing (length (row_number es i)) s t is r), λ a place b h e. cases a place b e (cases_lt a i) h)
       where
         cases : (a place b : ℕ) → linked_end es a place ≡ Some b → (a < i) ⊎ (i ≤ a) → a < i + 1 → IsMet t a ⊎ (is_near t.back b a ≡ true)
         cases a place b e (inl lt) h = elim (read a place b lt e) [ inl met ↦ inl (ap (λ flood. is_some (number_at flood a)) r.flood ∙ met) | inr near ↦ inr (r.kept b a near) ]
@@ -368,11 +395,11 @@ module _ (es : Entries) (ok : IsGraph es) (asked : Asked) where
             let same : a ≡ i = omega arith in
             let edge : linked_end es i place ≡ Some b = subst (λ n. linked_end es n place ≡ Some b) same e in
             inr (subst (λ n. is_near t.back b n ≡ true) (sym same) (r.there place b (place_within es i place b edge) edge))
-    spread-reads s t is calm read (inr r) =
-        (spread-meets [] t.flood.waiting.items (i ∷ []) r.between t notes r.meets r.back r.followed (λ a h. (r.end, now r.end r.met, (r.here, inl (subst (λ n. linked_end es n r.here ≡ Some r.end) (sym (one_of-single a i h)) r.edge)))) (λ a h. none_of a h) (λ a h. h) (waits_met (i ∷ []) r.between.flood t.flood r.meets (λ a h. none_of a (subst (IsOneOf a) none_waits h))), λ a place b h e. cases a place b e (cases_lt a i) h)
+    spread-reads missing s t is calm read (inr r) =
+        (spread-meets missing [] t.flood.waiting.items (i ∷ []) r.between t notes r.meets r.back r.followed (λ a h. (r.end, now r.end r.met, (r.here, inl (subst (λ n. linked_end es n r.here ≡ Some r.end) (sym (one_of-single a i h)) r.edge)))) (λ a h. none_of a h) (λ a h. h) (waits_met (i ∷ []) r.between.flood t.flood r.meets (λ a h. none_of a (subst (IsOneOf a) none_waits h))), λ a place b h e. cases a place b e (cases_lt a i) h)
       where
-        notes : IsSpread es asked [] r.between
-        notes = spread-notes r.here s r.between is r.reads
+        notes : IsSpread es asked missing [] r.between
+        notes = spread-notes missing r.here s r.between is r.reads
 
         none_waits : r.between.flood.waiting.items ≡ []
         none_waits = ap (λ flood. flood.waiting.items) r.reads.flood ∙ calm
@@ -387,8 +414,8 @@ module _ (es : Entries) (ok : IsGraph es) (asked : Asked) where
             inl (r.meets.met a (subst (λ n. IsOneOf n (i ∷ [])) (sym same) (single-one_of i)))
 
   -- ---- the begin
-  pub spread-begins : (count start : ℕ) (s : Spread) → count ≡ length (keys_of es) → slice_get (keys_of es) start ≡ Some asked.x → BeginsAt count start s → IsSpread es asked s.flood.waiting.items s
-  spread-begins count start s whole at b = record {
+  pub spread-begins : (missing : Rights) (count start : ℕ) (s : Spread) → count ≡ length (keys_of es) → slice_get (keys_of es) start ≡ Some asked.x → BeginsAt count start s → IsSpread es asked missing s.flood.waiting.items s
+  spread-begins missing count start s whole at b = record {
     len = b.meets.len ∙ ap length b.clear ∙ length-replicate {A = Option ℕ} count None ∙ whole;
     back_len = ap length b.back ∙ length-replicate {A = List ℕ} count [] ∙ whole;
     count = omega (arith, b.meets.work, ap (λ numbers. count_by (λ number. not (is_some number)) numbers) b.clear, fresh_count count, ap length b.calm, b.followed, whole);
@@ -428,8 +455,8 @@ module _ (es : Entries) (ok : IsGraph es) (asked : Asked) where
           by (inr h) = get_or-eq_default (replicate count []) [] (omega (arith, length-replicate {A = List ℕ} count []))
 
   -- ---- the end
-  pub spread-ends : WellFormed g → (i : ℕ) (s : Spread) → length (keys_of es) ≤ i → IsTrue (has_vertex g asked.x) → IsAtRest es asked i s → HeldInIsland g asked.right asked.x asked.y → ⊥
-  spread-ends well i s past known rest held = finish (rest.is_spread.none at.0 (sym (named at.0 held.0 at.1) ∙ flood_has_island g is_met asked.x held.0 on (named start.0 asked.x start.1 ∙ rest.is_spread.start start.0 start.1) held.2))
+  pub spread-ends : WellFormed g → (missing : Rights) (i : ℕ) (s : Spread) → length (keys_of es) ≤ i → IsTrue (has_vertex g asked.x) → IsAtRest es asked missing i s → (right : Right) → IsTrue (member missing right) → HeldInIsland g right asked.x asked.y → ⊥
+  spread-ends well missing i s past known rest right m held = finish (rest.is_spread.none at.0 (sym (named at.0 held.0 at.1) ∙ flood_has_island g is_met asked.x held.0 on (named start.0 asked.x start.1 ∙ rest.is_spread.start start.0 start.1) held.2))
     where
       is_met : Name → Bool
       is_met v = is_some (option_and_then (λ a. number_at s.flood a) (position (bytes_eq v) (keys_of es)))
@@ -438,7 +465,7 @@ module _ (es : Entries) (ok : IsGraph es) (asked : Asked) where
       named a v p = ap (λ o. is_some (option_and_then (λ b. number_at s.flood b) o)) (position-at (keys_of es) ok.apart a v p)
 
       at : (a : ℕ) × (slice_get (keys_of es) a ≡ Some held.0)
-      at = place_of (keys_of es) held.0 (well.ends held.0 asked.right asked.y held.1).0
+      at = place_of (keys_of es) held.0 (well.ends held.0 right asked.y held.1).0
 
       start : (a : ℕ) × (slice_get (keys_of es) a ≡ Some asked.x)
       start = place_of (keys_of es) asked.x known
@@ -453,6 +480,16 @@ module _ (es : Entries) (ok : IsGraph es) (asked : Asked) where
           let b = place_of (keys_of es) v there in
           named b.0 v b.1 ∙ along a.0 b.0 (sym (named a.0 u a.1) ∙ met) (slice_get_within (keys_of es) b.0 v b.1) (linked-edge es ok a.0 b.0 u v a.1 b.1 link)
 
-      finish : IsOneOf at.0 [] ⊎ (HoldsAt g asked.right asked.y at.0 → ⊥) → ⊥
+      finish : IsOneOf at.0 [] ⊎ HoldsNone g missing asked.y at.0 → ⊥
       finish (inl w) = none_of at.0 w
-      finish (inr n) = n (record { name = held.0; place = at.1; holds = held.1 })
+      finish (inr n) = n right m (record { name = held.0; place = at.1; holds = held.1 })
+
+  -- ---- what is missing
+  pub all_held : (missing : Rights) → IsTrue (is_empty_set missing) → IsMissing es asked missing → (right : Right) → IsTrue (member asked.rights right) → HeldInIsland g right asked.x asked.y
+  all_held missing e is right m = elim (is.found right m) [ inl h ↦ absurd (none_among missing e right h) | inr held ↦ held ]
+
+  pub then_none_missing : (missing : Rights) → IsMissing es asked missing → ((right : Right) → IsTrue (member missing right) → HeldInIsland g right asked.x asked.y → ⊥) → ((right : Right) → IsTrue (member asked.rights right) → HeldInIsland g right asked.x asked.y) → IsTrue (is_empty_set missing)
+  then_none_missing missing is lacking held = ap is_empty_set (same_set missing nothing none is.named (lit< tt))
+    where
+      none : (right : Right) → member missing right ≡ member nothing right
+      none right = elim (cases_Bool (member missing right)) [ inl m ↦ absurd (lacking right m (held right (is.among right m))) | inr e ↦ e ∙ sym (member-nothing right) ]

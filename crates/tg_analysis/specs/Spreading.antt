@@ -1,16 +1,16 @@
--- A flood from one vertex that looks for a holder of a right.
+-- A flood from one vertex that looks for holders of rights.
 use Rattle.std.specs.Prelude.{◌≡◌, ℕ, ◌<◌, ◌+◌, Bool, true, false, IsTrue, List, [], ◌∷◌, length, replicate, slice_get, Option, Some, None, is_some, ◌⊎◌}
 use Rattle.std.specs.Map.{keys_of}
 use Rattle.tg_graph.specs.declared.right_sets.Right.{Right}
 use Rattle.tg_graph.specs.declared.right_sets.Rights.{Rights}
-use Rattle.tg_graph.specs.Sets.{member}
+use Rattle.tg_graph.specs.Sets.{member, IsNamed}
 use Rattle.tg_graph.specs.Graphs.{Name, ProtectionGraph}
 use Rattle.tg_graph.specs.GraphOf.{graph_of}
 use Rattle.tg_graph.specs.Rows.{Entries, row_number}
 use Rattle.tg_analysis.specs.declared.flooding.Flood.{Flood}
 use Rattle.tg_analysis.specs.declared.spreading.Asked.{Asked}
 use Rattle.tg_analysis.specs.declared.spreading.Spread.{Spread}
-use Rattle.tg_analysis.specs.Sharing.{InOneIsland}
+use Rattle.tg_analysis.specs.Sharing.{InOneIsland, HeldInIsland}
 use Rattle.tg_analysis.specs.Linked.{neighbours, is_near, linked_end, AddsNeighbour}
 use Rattle.tg_analysis.specs.Flooding.{number_at, work_left, IsOneOf, Meets, MeetsEnds}
 
@@ -23,11 +23,15 @@ pub record HoldsAt (g : ProtectionGraph) (right : Right) (y : Name) (a : ℕ) : 
   pub place : slice_get g.vertices a ≡ Some name
   pub holds : IsTrue (g.holds name right y)
 
--- the edge at a place in a row is to y and has the right
-pub record HasRight (es : Entries) (right : Right) (y : Name) (a place : ℕ) : Type 0 where
-  pub label : Rights
-  pub edge : slice_get (row_number es a) place ≡ Some (y, label)
-  pub has : IsTrue (member label right)
+-- the vertex at the position holds no right of the set over y
+abbrev pub HoldsNone : ProtectionGraph → Rights → Name → ℕ → Type 0
+HoldsNone g s y a = (right : Right) → IsTrue (member s right) → HoldsAt g right y a → ⊥
+
+-- the rights are of the set that is asked for, and x's island holds the others of that set
+pub record IsMissing (es : Entries) (asked : Asked) (missing : Rights) : Type 0 where
+  pub named : IsNamed missing
+  pub among : (right : Right) → IsTrue (member missing right) → IsTrue (member asked.rights right)
+  pub found : (right : Right) → IsTrue (member asked.rights right) → IsTrue (member missing right) ⊎ HeldInIsland (graph_of es) right asked.x asked.y
 
 -- the start alone was met, and waits
 pub record BeginsAt (count start : ℕ) (spread : Spread) : Type 0 where
@@ -82,8 +86,8 @@ pub record ReadsMet (es : Entries) (a : ℕ) (old new : Spread) : Type 0 where
 abbrev pub Reads : Entries → ℕ → Spread → Spread → Type 0
 Reads es a old new = ReadsUpTo es a (length (row_number es a)) old new ⊎ ReadsMet es a old new
 
--- what was met lies in x's island; what was met and is not pending is no holder, and what is linked to it, ahead or by its list, was met
-pub record IsSpread (es : Entries) (asked : Asked) (pending : List ℕ) (spread : Spread) : Type 0 where
+-- what was met lies in x's island; what was met and is not pending holds no missing right, and what is linked to it, ahead or by its list, was met
+pub record IsSpread (es : Entries) (asked : Asked) (missing : Rights) (pending : List ℕ) (spread : Spread) : Type 0 where
   pub len : length spread.flood.numbers.items ≡ length (keys_of es)
   pub back_len : length spread.back ≡ length (keys_of es)
   pub count : work_left spread.flood + spread.followed ≡ length (keys_of es)
@@ -91,7 +95,7 @@ pub record IsSpread (es : Entries) (asked : Asked) (pending : List ℕ) (spread 
   pub inside : (a : ℕ) (u : Name) → slice_get (keys_of es) a ≡ Some u → IsMet spread a → InOneIsland (graph_of es) asked.x u
   pub start : (a : ℕ) → slice_get (keys_of es) a ≡ Some asked.x → IsMet spread a
   pub pends : (a : ℕ) → IsOneOf a pending → IsMet spread a
-  pub none : (a : ℕ) → IsMet spread a → IsOneOf a pending ⊎ (HoldsAt (graph_of es) asked.right asked.y a → ⊥)
+  pub none : (a : ℕ) → IsMet spread a → IsOneOf a pending ⊎ HoldsNone (graph_of es) missing asked.y a
   pub ahead : (a place b : ℕ) → IsMet spread a → linked_end es a place ≡ Some b → IsOneOf a pending ⊎ IsMet spread b
   pub behind : (a b : ℕ) → IsMet spread b → is_near spread.back b a ≡ true → IsOneOf b pending ⊎ IsMet spread a
 
@@ -100,14 +104,14 @@ abbrev pub HasRead : Entries → ℕ → Spread → Type 0
 HasRead es i spread = (a place b : ℕ) → a < i → linked_end es a place ≡ Some b → IsMet spread a ⊎ (is_near spread.back b a ≡ true)
 
 -- nothing waits, and the rows before the position were read or followed
-pub record IsAtRest (es : Entries) (asked : Asked) (i : ℕ) (spread : Spread) : Type 0 where
-  pub is_spread : IsSpread es asked [] spread
+pub record IsAtRest (es : Entries) (asked : Asked) (missing : Rights) (i : ℕ) (spread : Spread) : Type 0 where
+  pub is_spread : IsSpread es asked missing [] spread
   pub calm : spread.flood.waiting.items ≡ []
   pub read : HasRead es i spread
 
 -- the flood came to its end
-pub record RunsOut (es : Entries) (asked : Asked) (old new : Spread) : Type 0 where
-  pub is_spread : IsSpread es asked [] new
+pub record RunsOut (es : Entries) (asked : Asked) (missing : Rights) (old new : Spread) : Type 0 where
+  pub is_spread : IsSpread es asked missing [] new
   pub calm : new.flood.waiting.items ≡ []
   pub back : new.back ≡ old.back
   pub grows : (a : ℕ) → IsMet old a → IsMet new a

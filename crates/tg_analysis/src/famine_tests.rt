@@ -6,10 +6,12 @@ use crate::memory_tests::three;
 use crate::questions::AskFault;
 use crate::table_faults::TableFault;
 use crate::test_answers::{
-    assert_no_table, assert_numbers, assert_table, derived, islands_of, shares, table_of,
+    assert_no_table, assert_numbers, assert_table, derived, islands_of, shares, shares_all,
+    table_of,
 };
+use bitflags::Flags;
 use std::test::Fail;
-use tg_graph::{Name, Right};
+use tg_graph::{Name, Right, Rights};
 
 #[test]
 fn islands_read(rt: HostRuntime) -> Result<(), Fail> {
@@ -35,7 +37,16 @@ fn questions_refused(rt: HostRuntime) -> Result<(), Fail> {
     let (x, nobody) = (Name::helper(0), Name::helper(3));
     let unknown = Some(AskFault::Unknown(nobody));
     assert!(rt; shares(rt.alloc(), &graph, Right::R, x, nobody).err() == unknown);
+    assert!(rt; shares_all(rt.alloc(), &graph, Rights::READ, nobody, x).err() == unknown);
     assert!(rt; derived(rt.alloc(), &graph, Right::R, nobody, x).err() == unknown);
     assert_no_table(&rt, rt.alloc(), &graph, 0, TableFault::Workers);
+    Ok(())
+}
+
+#[test]
+fn no_rights_asked_for(rt: HostRuntime) -> Result<(), Fail> {
+    let graph = three(rt.alloc())?;
+    let (x, y) = (Name::helper(0), Name::helper(2));
+    assert!(rt; shares_all(rt.alloc(), &graph, Rights::empty(), x, y) == Ok(true));
     Ok(())
 }

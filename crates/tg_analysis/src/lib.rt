@@ -33,7 +33,7 @@ mod test_answers;
 #[cfg(test)]
 mod test_graphs;
 
-pub use answers::can_share;
+pub use answers::{can_share, can_share_all};
 pub use derivations::derivation;
 pub use flooding::islands;
 pub use gates::{Gate, OpenGate};

@@ -7,7 +7,9 @@ use crate::numbering::Islands;
 use crate::questions::AskFault;
 use crate::table_faults::TableFault;
 use crate::tables::PairTable;
-use crate::test_answers::{assert_numbers, assert_table, derived, islands_of, shares, table_of};
+use crate::test_answers::{
+    assert_numbers, assert_table, derived, islands_of, shares, shares_all, table_of,
+};
 use std::alloc::{AllocError, Global};
 use std::test::Fail;
 use std::thread::Threads;
@@ -65,6 +67,15 @@ fn shared(alloc: Global, graph: &Graph, right: Right) -> Result<bool, AskFault> 
     }
 }
 
+// Whether it can come to have each right of the set.
+fn shared_all(alloc: Global, graph: &Graph, rights: Rights) -> Result<bool, AskFault> {
+    let (x, y) = (Name::helper(0), Name::helper(2));
+    match shares_all(alloc, graph, rights, x, y) {
+        Err(AskFault::Memory) => shares_all(alloc, graph, rights, x, y),
+        outcome => outcome,
+    }
+}
+
 // By how many rules.
 fn rule_count(alloc: Global, graph: &Graph, right: Right) -> Result<Option<usize>, AskFault> {
     let rules = derived(alloc, graph, right, Name::helper(0), Name::helper(2))?;
@@ -82,6 +93,7 @@ fn rule_count_again(alloc: Global, graph: &Graph, right: Right) -> Result<Option
 fn refused_questions(rt: HostRuntime) -> Result<(), Fail> {
     let graph = three(rt.alloc())?;
     assert!(rt; shared(rt.alloc(), &graph, Right::R) == Ok(true));
+    assert!(rt; shared_all(rt.alloc(), &graph, Rights::READ) == Ok(true));
     assert!(rt; rule_count_again(rt.alloc(), &graph, Right::R) == Ok(Some(4)));
     Ok(())
 }
@@ -91,6 +103,7 @@ fn refused_questions(rt: HostRuntime) -> Result<(), Fail> {
 fn refused_questions_with_a_no(rt: HostRuntime) -> Result<(), Fail> {
     let graph = three(rt.alloc())?;
     assert!(rt; shared(rt.alloc(), &graph, Right::W) == Ok(false));
+    assert!(rt; shared_all(rt.alloc(), &graph, Rights::READ.union(Rights::WRITE)) == Ok(false));
     assert!(rt; rule_count_again(rt.alloc(), &graph, Right::W) == Ok(None));
     Ok(())
 }

@@ -1,9 +1,10 @@
 use crate::questions::AskFault;
-use crate::test_answers::{derived, shares};
-use crate::test_graphs::{graph, name, numbered, right, rule, word};
+use crate::test_answers::{derived, shares, shares_all};
+use crate::test_graphs::{graph, name, numbered, right, rule, set, word};
+use bitflags::Flags;
 use std::alloc::Global;
 use std::process::Abort;
-use tg_graph::{Graph, Name, Right, Rule};
+use tg_graph::{Graph, Name, Right, Rights, Rule};
 
 // The rules are those that a text says, with a comma after each but the last.
 fn assert_rules(rt: &impl Abort, rules: &[Rule], text: &str) {
@@ -147,10 +148,64 @@ fn outside_the_island(rt: HostRuntime) {
     }
 }
 
+// The answer about a set of rights: "a c rw" is whether a can come to have r and w over c.
+fn assert_shares_all(
+    rt: &impl Abort,
+    alloc: Global,
+    vertices: &str,
+    edges: &str,
+    question: &str,
+    answer: bool,
+) {
+    let g = graph(rt, alloc, vertices, edges);
+    let mut words = question.split_whitespace();
+    let x = name(rt, word(rt, &mut words));
+    let y = name(rt, word(rt, &mut words));
+    let rights = set(rt, word(rt, &mut words));
+    assert!(rt; shares_all(alloc, &g, rights, x, y) == Ok(answer));
+}
+
+#[test]
+fn sets_of_rights(rt: HostRuntime) {
+    let by_a_grant = ("a b c", "a b g, b c rw");
+    let in_parts = ("a b c d", "a b t, c b g, a d r, b d w, c d e");
+    let apart = ("a b c d", "a b t, a d r, c d w");
+    let nearly_all = ("a b c", "a b g, b c tgrwea");
+    let cases = [
+        (by_a_grant, "a c rw", true),
+        (by_a_grant, "a c rwe", false),
+        (by_a_grant, "a c ea", false),
+        (by_a_grant, "a c -", true),
+        (by_a_grant, "c a -", true),
+        (in_parts, "a d rwe", true),
+        (in_parts, "c d wr", true),
+        (in_parts, "b d rwea", false),
+        (apart, "a d r", true),
+        (apart, "a d rw", false),
+        (nearly_all, "a c tgrwea", true),
+        (nearly_all, "a c tgrwead", false),
+        (("a b c", "b a g, b c tgrwead"), "a c tgrwead", true),
+    ];
+    for ((vertices, edges), question, answer) in &cases {
+        assert_shares_all(&rt, rt.alloc(), vertices, edges, question, *answer);
+    }
+}
+
+#[test]
+fn bits_that_stand_for_no_right(rt: HostRuntime) {
+    let g = graph(&rt, rt.alloc(), "a b c", "a b g, b c rw");
+    let (a, c) = (name(&rt, "a"), name(&rt, "c"));
+    for (bits, answer) in [(128, true), (128 + 4 + 8, true), (128 + 1, false)] {
+        let rights = Rights::from_bits_retain(bits);
+        assert!(rt; shares_all(rt.alloc(), &g, rights, a, c) == Ok(answer));
+    }
+}
+
 fn assert_unknown(rt: &impl Abort, alloc: Global, graph: &Graph, x: &str, y: &str, first: &str) {
     let (x, y) = (name(rt, x), name(rt, y));
     let due = Some(AskFault::Unknown(name(rt, first)));
     assert!(rt; shares(alloc, graph, Right::R, x, y).err() == due);
+    assert!(rt; shares_all(alloc, graph, Rights::empty(), x, y).err() == due);
     assert!(rt; derived(alloc, graph, Right::R, x, y).err() == due);
 }
 
@@ -165,6 +220,7 @@ fn no_vertex(rt: HostRuntime) {
 fn assert_too_large(rt: &impl Abort, alloc: Global, graph: &Graph, x: &str, y: &str) {
     let (x, y) = (name(rt, x), name(rt, y));
     assert_shares(rt, alloc, graph, Right::R, x, y, false);
+    assert!(rt; shares_all(alloc, graph, set(rt, "rw"), x, y) == Ok(false));
     let fault = derived(alloc, graph, Right::R, x, y).err();
     assert!(rt; fault == Some(AskFault::TooLarge));
 }

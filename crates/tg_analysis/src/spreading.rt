@@ -1,70 +1,33 @@
-//! The flood from one vertex that looks for a holder of a right.
-ghost use Rattle.std.specs.Prelude.{◌≡◌, ◌↔◌, ◌<◌, ◌+◌, ◌∷◌, [], ℕ, true, IsTrue, IfOk, OnOk, MatchBool, length};
+//! The flood from one vertex that looks for holders of rights.
+ghost use Rattle.std.specs.Prelude.{◌≡◌, ◌↔◌, ◌<◌, ◌+◌, ◌∷◌, [], ℕ, true, IsTrue, IfOk, OnOk, ◌⊎◌, length};
 ghost use Rattle.std.specs.Map.{keys_of};
+ghost use Rattle.tg_graph.specs.declared.right_sets.Right.{Right};
+ghost use Rattle.tg_graph.specs.Sets.{member, is_empty_set, IsNamed};
 ghost use Rattle.tg_graph.specs.Graphs.{has_vertex};
 ghost use Rattle.tg_graph.specs.GraphOf.{graph_of};
 ghost use Rattle.tg_graph.specs.Rows.{IsGraph};
-ghost use Rattle.tg_graph.specs.RuleLists.{CanShare};
+ghost use Rattle.tg_graph.specs.RuleLists.{CanShareAll};
 ghost use Rattle.tg_analysis.specs.Sharing.{HeldInIsland};
 ghost use Rattle.tg_analysis.specs.Linked.{is_near};
 ghost use Rattle.tg_analysis.specs.Flooding.{work_left};
-ghost use Rattle.tg_analysis.specs.Spreading.{IsMet, HasRight, HoldsAt, BeginsAt, Follows, FollowsOn, ReadsEdge, Reads, IsSpread, HasRead, RunsOut, IsAtRest};
+ghost use Rattle.tg_analysis.specs.Spreading.{BeginsAt, Follows, FollowsOn, ReadsEdge, Reads, IsMissing, IsSpread, RunsOut, IsAtRest};
 
 use crate::flooding::Flood;
 use crate::laws;
 use crate::links::{Links, linked_end};
+use bitflags::Flags;
 use std::alloc::{AllocError, Global};
-use tg_graph::{Graph, Name, Right};
+use tg_graph::{Graph, Name, Rights};
 
-// The most edges of a row that is read through faster than its vertex is looked up by name.
-const SHORT_ROW: usize = 16;
-
-/// The question whether x can come to have the right over y.
+/// The question whether x can come to have each right of a set over y.
 #[derive(Clone, Copy)]
 pub struct Asked {
-    /// The right.
-    pub right: Right,
-    /// Who may come to have it.
+    /// The rights.
+    pub rights: Rights,
+    /// Who may come to have them.
     pub x: Name,
     /// Over whom.
     pub y: Name,
-}
-
-// Whether the edge at a place in a row is to y and has the right.
-fn has_right(graph: &Graph, asked: &Asked, position: usize, place: usize) -> bool
-    ensures { IsTrue result ↔ HasRight graph.now asked.now.right asked.now.y position place }
-{
-    match graph.row_at(position, place) {
-        Some((target, label)) => label.has(asked.right) && target == asked.y,
-        None => false,
-    }
-}
-
-// Whether the row of a position has an edge to y with the right.
-fn row_has_right(graph: &Graph, asked: &Asked, position: usize) -> bool
-    requires { IsGraph graph.now }
-    ensures { IsTrue result ↔ HoldsAt (graph_of graph.now) asked.now.right asked.now.y position }
-{
-    for place in 0..graph.row_len(position) {
-        if has_right(graph, asked, position, place) {
-            return true;
-        }
-    }
-    false
-}
-
-// Whether the vertex at a position holds the right over y.
-fn is_holder(graph: &Graph, asked: &Asked, position: usize) -> bool
-    requires { IsGraph graph.now }
-    ensures { IsTrue result ↔ HoldsAt (graph_of graph.now) asked.now.right asked.now.y position }
-{
-    if graph.row_len(position) <= SHORT_ROW {
-        return row_has_right(graph, asked, position);
-    }
-    match graph.name_at(position) {
-        Some(name) => graph.holds(name, asked.right, asked.y),
-        None => false,
-    }
 }
 
 // A flood from one vertex. A row is read when the flood comes to its vertex, or to find links that
@@ -121,22 +84,27 @@ impl Spread {
         Ok(())
     }
 
-    // Goes on until a holder is taken, and says so, or nothing is left to follow.
-    fn run(&mut self, graph: &Graph, asked: &Asked) -> Result<bool, AllocError>
+    // Goes on until no right is missing, or nothing is left to follow. What is given are the rights
+    // that are missing then.
+    fn run(&mut self, graph: &Graph, asked: &Asked, missing: Rights) -> Result<Rights, AllocError>
         requires graph { IsGraph graph.now }
-        requires spread { IsSpread graph.now asked.now self.old.flood.waiting.items self.old }
-        ensures { IfOk result (λ found. MatchBool found
-            (HeldInIsland (graph_of graph.now) asked.now.right asked.now.x asked.now.y)
-            (RunsOut graph.now asked.now self.old self.new)) }
+        requires missing { IsMissing graph.now asked.now missing }
+        requires spread { IsSpread graph.now asked.now missing
+            self.old.flood.waiting.items self.old }
+        ensures missing { IfOk result (IsMissing graph.now asked.now) }
+        ensures end { IfOk result (λ left. IsTrue (is_empty_set left)
+            ⊎ RunsOut graph.now asked.now left self.old self.new) }
     {
+        let mut missing = missing;
         while let Some(position) = self.flood.waiting.pop() {
             self.followed += 1;
-            if is_holder(graph, asked, position) {
-                return Ok(true);
+            missing = missing.difference(graph.rights_at(position, asked.y));
+            if missing.is_empty() {
+                return Ok(missing);
             }
             self.follow_on(graph, position)?;
         }
-        Ok(false)
+        Ok(missing)
     }
 
     // Notes the edge at a place in the row of a position that was not met, unless it leads to one
@@ -178,60 +146,72 @@ impl Spread {
     }
 
     // Reads the row of a position, if it was not met, and goes on from there.
-    fn visit(&mut self, graph: &Graph, asked: &Asked, position: usize) -> Result<bool, AllocError>
+    fn visit(
+        &mut self,
+        graph: &Graph,
+        asked: &Asked,
+        position: usize,
+        missing: Rights,
+    ) -> Result<Rights, AllocError>
         requires graph { IsGraph graph.now }
-        requires rest { IsAtRest graph.now asked.now position self.old }
+        requires missing { IsMissing graph.now asked.now missing }
+        requires rest { IsAtRest graph.now asked.now missing position self.old }
         requires within { position < length (keys_of graph.now) }
-        ensures { IfOk result (λ found. MatchBool found
-            (HeldInIsland (graph_of graph.now) asked.now.right asked.now.x asked.now.y)
-            (IsAtRest graph.now asked.now (position + 1) self.new)) }
+        ensures missing { IfOk result (IsMissing graph.now asked.now) }
+        ensures rest { IfOk result (λ left. IsTrue (is_empty_set left)
+            ⊎ IsAtRest graph.now asked.now left (position + 1) self.new) }
     {
         if self.flood.numbers[position].is_some() {
-            return Ok(false);
+            return Ok(missing);
         }
         self.read_row(graph, position)?;
-        let found = self.run(graph, asked)?;
-        Ok(found)
+        let missing = self.run(graph, asked, missing)?;
+        Ok(missing)
     }
 
-    // Whether the whole flood takes a holder.
-    fn search(&mut self, graph: &Graph, asked: &Asked) -> Result<bool, AllocError>
-        requires spread { IsSpread graph.now asked.now self.old.flood.waiting.items self.old }
+    // The rights of the set that no vertex of x's island holds.
+    fn search(&mut self, graph: &Graph, asked: &Asked) -> Result<Rights, AllocError>
+        requires named { IsNamed asked.now.rights }
+        requires spread { IsSpread graph.now asked.now asked.now.rights
+            self.old.flood.waiting.items self.old }
         requires source { has_vertex (graph_of graph.now) asked.now.x ≡ true }
-        ensures { IfOk result
-            (λ found. IsTrue found
-            ↔ HeldInIsland (graph_of graph.now) asked.now.right asked.now.x asked.now.y) }
+        ensures missing { IfOk result (IsMissing graph.now asked.now) }
+        ensures lacking { IfOk result (λ left. (right : Right) → IsTrue (member left right)
+            → HeldInIsland (graph_of graph.now) right asked.now.x asked.now.y → ⊥) }
     {
         let count = graph.len();
-        if self.run(graph, asked)? {
-            return Ok(true);
-        }
+        let mut missing = self.run(graph, asked, asked.rights)?;
         for position in 0..count {
-            if self.visit(graph, asked, position)? {
-                return Ok(true);
+            if missing.is_empty() {
+                return Ok(missing);
             }
+            missing = self.visit(graph, asked, position, missing)?;
         }
-        Ok(false)
+        Ok(missing)
     }
 }
 
-/// Whether some list of rules gives x the right over y: whether x's island holds it.
+/// Whether some list of rules gives x each right of the set over y: whether x's island holds each.
 ///
 /// The one error is want of memory.
 pub fn island_holds(alloc: Global, graph: &Graph, asked: &Asked) -> Result<bool, AllocError>
+    requires named { IsNamed asked.now.rights }
     requires source { has_vertex (graph_of graph.now) asked.now.x ≡ true }
     requires target { has_vertex (graph_of graph.now) asked.now.y ≡ true }
     ensures { IfOk result
         (λ found. IsTrue found
-        ↔ CanShare (graph_of graph.now) asked.now.right asked.now.x asked.now.y) }
+        ↔ CanShareAll (graph_of graph.now) asked.now.rights asked.now.x asked.now.y) }
 {
-    laws::shared_exactly();
+    laws::together();
+    if asked.rights.is_empty() {
+        return Ok(true);
+    }
     let count = graph.len();
     match graph.position(asked.x) {
         Some(start) => {
             let mut spread = Spread::from(alloc, count, start)?;
-            let found = spread.search(graph, asked)?;
-            Ok(found)
+            let missing = spread.search(graph, asked)?;
+            Ok(missing.is_empty())
         }
         None => Ok(false),
     }

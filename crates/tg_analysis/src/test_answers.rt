@@ -1,6 +1,6 @@
 //! Assertions of what islands, tables and questions answer. They tell nothing of what they saw, so
 //! the check of a test that makes many of them stays short.
-use crate::answers::can_share;
+use crate::answers::{can_share, can_share_all};
 use crate::derivations::derivation;
 use crate::flooding::islands;
 use crate::gates::{Gate, OpenGate};
@@ -11,7 +11,7 @@ use crate::tables::{PairTable, pair_table};
 use std::alloc::{AllocError, Global};
 use std::process::Abort;
 use std::thread::Threads;
-use tg_graph::{Graph, Name, Right, Rule};
+use tg_graph::{Graph, Name, Right, Rights, Rule};
 
 /// The islands.
 pub(crate) fn islands_of(alloc: Global, graph: &Graph) -> Result<Islands, AllocError> {
@@ -27,6 +27,17 @@ pub(crate) fn shares(
     y: Name,
 ) -> Result<bool, AskFault> {
     can_share(alloc, graph, right, x, y)
+}
+
+/// Whether x can come to have each right of the set over y.
+pub(crate) fn shares_all(
+    alloc: Global,
+    graph: &Graph,
+    rights: Rights,
+    x: Name,
+    y: Name,
+) -> Result<bool, AskFault> {
+    can_share_all(alloc, graph, rights, x, y)
 }
 
 /// By which rules, if by any.

@@ -12,7 +12,8 @@ pub(crate) fn name(rt: &impl Abort, word: &str) -> Name {
     Name::parse(word.as_bytes()).expect(rt, "a name")
 }
 
-fn set(rt: &impl Abort, letters: &str) -> Rights
+/// The set of the letters.
+pub(crate) fn set(rt: &impl Abort, letters: &str) -> Rights
     ensures { IsNamed result }
 {
     Rights::from_letters(letters.as_bytes()).expect(rt, "letters of rights")

@@ -97,7 +97,7 @@ contains_none y (k, l, e) = absurd (omega arith)
 
 -- a right more
 
-one_itself : (right : Right) → IsTrue (member (record { 0 = 2 ^ bit_of right }) right)
+pub one_itself : (right : Right) → IsTrue (member (record { 0 = 2 ^ bit_of right }) right)
 one_itself T = refl
 one_itself G = refl
 one_itself R = refl
@@ -106,7 +106,7 @@ one_itself E = refl
 one_itself A = refl
 one_itself D = refl
 
-one_alone : (right other : Right) → IsTrue (member (record { 0 = 2 ^ bit_of right }) other) → right ≡ other
+pub one_alone : (right other : Right) → IsTrue (member (record { 0 = 2 ^ bit_of right }) other) → right ≡ other
 one_alone T T m = refl
 one_alone G G m = refl
 one_alone R R m = refl

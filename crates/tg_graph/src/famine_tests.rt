@@ -34,6 +34,7 @@ fn graphs_read(rt: HostRuntime) -> Result<(), Fail> {
     assert!(rt; g.len() == 3 && g.position(b) == Some(1) && g.name_at(3).is_none());
     assert!(rt; g.label(a, b) == Some(t) && g.label(a, z).is_none());
     assert!(rt; g.holds(a, Right::T, b) && !g.holds(b, Right::T, a));
+    assert!(rt; g.rights_at(0, b) == t && g.rights_at(1, a).is_empty());
     assert!(rt; g.row_len(0) == 1 && g.row_at(0, 0) == Some((b, t)) && g.row_at(0, 1).is_none());
     Ok(())
 }

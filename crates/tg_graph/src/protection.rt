@@ -3,7 +3,7 @@ ghost use Rattle.std.specs.Prelude.{◌≡◌, ◌<◌, [], Some, None, true, fa
 ghost use Rattle.std.specs.Map.{keys_of, lookup};
 ghost use Rattle.indexmap.specs.IndexMap.{spare};
 ghost use Rattle.tg_graph.specs.Sets.{IsNamed};
-ghost use Rattle.tg_graph.specs.Rows.{is_known, IsLabel, IsGraph, row_number, Adds, ChangesRow};
+ghost use Rattle.tg_graph.specs.Rows.{is_known, label_in, IsLabel, IsGraph, row_number, Adds, ChangesRow};
 ghost use Rattle.tg_graph.specs.Graphs.{has_vertex, WellFormed};
 ghost use Rattle.tg_graph.specs.GraphOf.{graph_of};
 ghost use Rattle.tg_graph.specs.Drafts.{taken_over};
@@ -386,6 +386,17 @@ impl Graph {
         match self.rows.get_index(position) {
             Some((_, row)) => row.edges().at(place),
             None => None,
+        }
+    }
+
+    /// The rights of the vertex at a position over y, none past the last.
+    pub fn rights_at(&self, position: usize, y: Name) -> Rights
+        ensures rights { result ≡ label_in (row_number self.now position) y }
+        ensures named { IsNamed result }
+    {
+        match self.rows.get_index(position) {
+            Some((_, row)) => row.edges().label(y),
+            None => Rights::empty(),
         }
     }
 

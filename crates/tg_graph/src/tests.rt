@@ -154,6 +154,24 @@ fn has_edge_at(
     assert!(rt; g.row_at(position, place) == Some((name(rt, y), set(rt, letters))));
 }
 
+fn has_rights_at(rt: &impl Abort, g: &Graph, position: usize, y: &[u8], letters: &[u8]) {
+    assert!(rt; g.rights_at(position, name(rt, y)) == set(rt, letters));
+}
+
+#[test]
+fn rights_by_position(rt: HostRuntime) {
+    let mut g = Graph::new(rt.alloc());
+    with_vertex(&rt, &mut g, b"b");
+    with_vertex(&rt, &mut g, b"a");
+    with_edge(&rt, &mut g, b"b", b"b", b"r");
+    with_edge(&rt, &mut g, b"a", b"b", b"gw");
+    has_rights_at(&rt, &g, 0, b"b", b"r");
+    has_rights_at(&rt, &g, 0, b"a", b"-");
+    has_rights_at(&rt, &g, 1, b"b", b"wg");
+    has_rights_at(&rt, &g, 1, b"c", b"-");
+    has_rights_at(&rt, &g, 2, b"b", b"-");
+}
+
 #[test]
 fn positions_and_rows(rt: HostRuntime) {
     let mut g = Graph::new(rt.alloc());

@@ -1,5 +1,11 @@
-use Rattle.tg_analysis.specs.Spreading.{IsAtRest}
+use Rattle.std.proofs.Common.{IsTrue, ◌⊎◌}
+use Rattle.tg_graph.specs.Sets.{is_empty_set}
+use Rattle.tg_analysis.specs.Spreading.{IsMissing, IsAtRest}
 use Rattle.tg_analysis.proofs.spreading.Spread.search.Given as goal
 
 abbrev pub invariant-loop-position : goal.invariant-loop-position
-invariant-loop-position l = IsAtRest l.graph l.asked l.position l.self
+invariant-loop-position l =
+    record {
+      is_missing : IsMissing l.graph l.asked l.missing;
+      rest : IsTrue (is_empty_set l.missing) ⊎ IsAtRest l.graph l.asked l.missing l.position l.self;
+    }
