@@ -34,7 +34,7 @@ mod test_answers;
 mod test_graphs;
 
 pub use answers::can_share;
-pub use derivations::derivation;
+pub use derivations::{derivation, derivation_all};
 pub use flooding::islands;
 pub use gates::{Gate, OpenGate};
 pub use numbering::Islands;
