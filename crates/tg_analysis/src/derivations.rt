@@ -37,7 +37,8 @@ fn carry(
     requires held { IsTrue ((graph_of graph.now).holds holder right y) }
     requires joined { IsChain (graph_of graph.now) holder links.now (end_of holder links.now) }
     ensures { IfOk result (λ last.
-        IsCarried (graph_of graph.now) right y holder links.now rules.old.items rules.new.items next last) }
+        IsCarried (graph_of graph.now) right y holder links.now
+        rules.old.items rules.new.items next last) }
 {
     let mut number = next;
     let mut q = holder;
@@ -70,8 +71,8 @@ fn add_part(
     ensures on { OnOk result (SearchesOn (graph_of graph.now) search.old search.new) }
     ensures part { IfOk result (λ last. MatchOption last
         (CanShare (graph_of graph.now) right search.old.start y → ⊥)
-        (λ last.
-        AddsPart (graph_of graph.now) right search.old.start y rules.old.items rules.new.items next last)) }
+        (λ last. AddsPart (graph_of graph.now) right search.old.start y
+        rules.old.items rules.new.items next last)) }
 {
     match search.chain_to(alloc, graph, right, y)? {
         None => Ok(None),
@@ -123,10 +124,10 @@ fn derive(
 /// One list of rules that gives `x` each right of the set over `y`, accepted one after another;
 /// none where no list does.
 ///
-/// The rights come in the order of their letters, each with the rules that `derivation` gives for it
-/// alone: along a shortest chain of links of this graph, by the cases that hold in this graph. A
-/// right that `x` has in this graph costs no rule. A helper is the vertex `_k` with the least number
-/// k that is not in use, neither in this graph nor by the rules before. For the empty set the list is
+/// The rights come in the order of their letters, each with the rules that `derivation` gives for
+/// it alone, but for the helpers: along a shortest chain of links of this graph, by the cases that
+/// hold in this graph. A right that `x` has in this graph costs no rule. A helper is the vertex `_k`
+/// with the least number k that is not in use after the rules before. For the empty set the list is
 /// empty.
 ///
 /// # Errors

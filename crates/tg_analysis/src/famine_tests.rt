@@ -6,10 +6,11 @@ use crate::memory_tests::three;
 use crate::questions::AskFault;
 use crate::table_faults::TableFault;
 use crate::test_answers::{
-    assert_no_table, assert_numbers, assert_table, derived, islands_of, shares, table_of,
+    all_derived, assert_no_table, assert_numbers, assert_table, derived, islands_of, shares,
+    table_of,
 };
 use std::test::Fail;
-use tg_graph::{Name, Right};
+use tg_graph::{Name, Right, Rights};
 
 #[test]
 fn islands_read(rt: HostRuntime) -> Result<(), Fail> {
@@ -36,6 +37,8 @@ fn questions_refused(rt: HostRuntime) -> Result<(), Fail> {
     let unknown = Some(AskFault::Unknown(nobody));
     assert!(rt; shares(rt.alloc(), &graph, Right::R, x, nobody).err() == unknown);
     assert!(rt; derived(rt.alloc(), &graph, Right::R, nobody, x).err() == unknown);
+    let rights = Rights::of(Right::R);
+    assert!(rt; all_derived(rt.alloc(), &graph, rights, x, nobody).err() == unknown);
     assert_no_table(&rt, rt.alloc(), &graph, 0, TableFault::Workers);
     Ok(())
 }

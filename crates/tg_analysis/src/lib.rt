@@ -23,6 +23,8 @@ mod numbering;
 #[cfg(test)]
 mod question_tests;
 mod questions;
+#[cfg(test)]
+mod set_tests;
 mod spreading;
 mod table_faults;
 #[cfg(test)]
