@@ -132,10 +132,7 @@ one_right_alone g right x y rules = (
         let is : rules ≡ parts.0 = parts.4 ∙ ap (λ rs. parts.0 ++ rs) parts.3 ∙ append-nil parts.0 in
         record { accepted = d.accepted; gives = d.gives right (only_member right); part = subst (λ rs. IsPart g g right x y rs) (sym is) parts.2 }
 
--- what can be shared alone can be as a set
-pub not_alone : (g : ProtectionGraph) (right : Right) (x y : Name) → (CanShareAll g (only right) x y → ⊥) → CanShare g right x y → ⊥
-not_alone g right x y none can = none (can.0, can.1, only_is (λ other. IsTrue ((after_all g can.0).holds x other y)) right can.2)
-
+-- where a right can't be shared alone, no set with it can be
 pub not_all : (g : ProtectionGraph) (s : Rights) (right : Right) (x y : Name) → member s right ≡ true → (CanShare g right x y → ⊥) → CanShareAll g s x y → ⊥
 not_all g s right x y within none can = none (can.0, can.1, can.2 right within)
 

@@ -151,9 +151,6 @@ order-met met v place o = go (list_any (same_name v) (keys_of met))
 
 -- ---- one more place
 module _ (g : ProtectionGraph) where
-  pub round-none : (met : Visits) → HasGoneRound g met 0
-  round-none met = λ k v from w h e l. absurd (omega arith)
-
   -- what was met up to the place is one of those before, or stands there
   both_parts : {P : ℕ → Name → Type 0} (old new : Visits) (place : ℕ) (visit : Name × ℕ) → slice_get old place ≡ Some visit → Grows old new → (k : ℕ) (v : Name) (from : ℕ) → k < place + 1 → slice_get new k ≡ Some (v, from) → ((k' : ℕ) (v' : Name) (from' : ℕ) → k' < place → slice_get old k' ≡ Some (v', from') → P k' v') → ((v' : Name) → visit.0 ≡ v' → P place v') → P k v
   both_parts {P} old new place visit here grows k v from h e before at = go (cases_lt k place)
