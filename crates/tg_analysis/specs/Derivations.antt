@@ -37,7 +37,7 @@ pub record Extends (g : ProtectionGraph) (rules : List Rule) (made : List Name) 
   pub vertices : (after_all g rules).vertices ≡ g.vertices ++ made
   pub triples : (u : Name) (right : Right) (v : Name) → IsTrue (g.holds u right v) → IsTrue ((after_all g rules).holds u right v)
 
--- the rules so far: each helper has a number below `next`, and the names of these numbers are in use
+-- the rules so far take nothing away; each helper that they make has a number below `next`, and the names of these numbers are in use
 pub record IsSoFar (g : ProtectionGraph) (rules : List Rule) (next : ℕ) : Type 0 where
   pub made : List Name
   pub extends : Extends g rules made
