@@ -22,6 +22,8 @@ pub mod Searched
 pub mod Rounds
 pub mod Ways
 pub mod Derived
+pub mod Parts
+pub mod Created
 pub mod Places
 pub mod Linked
 pub mod FloodSteps

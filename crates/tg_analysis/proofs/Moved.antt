@@ -1,7 +1,7 @@
 -- The rules of a move are those of the first case that holds, and moves follow one another.
-use Rattle.std.proofs.Common.{◌≡◌, ℕ, ◌+◌, ◌<◌, Bool, true, false, List, [], ◌∷◌, ◌++◌, Some, None, if◌then◌else◌, refl, sym, ap, ◌∙◌, subst, append_assoc, IsTrue, length, take, drop, drop-cons, suc, get_or, add-one, arith}
+use Rattle.std.proofs.Common.{◌≡◌, ℕ, ◌+◌, ◌<◌, ◌≤◌, Bool, true, false, List, [], ◌∷◌, ◌++◌, Some, None, if◌then◌else◌, refl, sym, ap, ◌∙◌, subst, append_assoc, length-append, IsTrue, length, take, drop, drop-cons, suc, get_or, add-one, arith}
 use Rattle.std.proofs.lemmas.Bool.{true≢false, both_ways}
-use Rattle.std.proofs.lemmas.List.{append-nil, take_more}
+use Rattle.std.proofs.lemmas.List.{append-nil, take_more, take_all}
 use Rattle.tg_graph.specs.declared.right_sets.Right.{Right}
 use Rattle.tg_graph.specs.declared.right_sets.Right.TheVariants.{T, G}
 use Rattle.tg_graph.specs.declared.rules.Rule.{Rule}
@@ -11,7 +11,7 @@ use Rattle.tg_graph.specs.Graphs.{Name, ProtectionGraph}
 use Rattle.tg_graph.specs.RuleLists.{after_all}
 use Rattle.tg_analysis.specs.Sharing.{IsChain}
 use Rattle.tg_analysis.specs.Moves.{only, take_and_grant, IsLeastHelper, IsMove, AreMoves}
-use Rattle.tg_analysis.specs.Derivations.{direct_rule, helper_rules, end_of, IsUnderway, GoesOn}
+use Rattle.tg_analysis.specs.Derivations.{direct_rule, helper_rules, end_of, IsSoFar, IsUnderway, GoesOn, IsCarried}
 use Rattle.tg_analysis.proofs.OverLinks.{after_both}
 
 module _ (g now : ProtectionGraph) (right : Right) (y p q : Name) where
@@ -71,21 +71,52 @@ end_push : (q : Name) (ps : List Name) (p : Name) → p ≡ end_of q (ps ++ p �
 end_push q [] p = refl
 end_push q (r ∷ rs) p = end_push r rs p
 
-pub underway_first : (g : ProtectionGraph) (right : Right) (y q : Name) (rules : List Rule) → rules ≡ [] → IsTrue (g.holds q right y) → IsUnderway g right y q rules 0
-underway_first g right y q rules none has = subst (λ rs. IsUnderway g right y q rs 0) (sym none) (record {
+-- before the first rule
+pub so_far_none : (g : ProtectionGraph) (rules : List Rule) → rules ≡ [] → IsSoFar g rules 0
+so_far_none g rules none = subst (λ rs. IsSoFar g rs 0) (sym none) (record {
   made = [];
   extends = record { accepted = tt; vertices = sym (append-nil g.vertices); triples = λ u right v h. h };
-  gives = has;
   helpers = λ v h. absurd (true≢false (sym h));
   used = λ k l. absurd (omega arith);
 })
 
-pub moves_next : (g : ProtectionGraph) (right : Right) (y holder : Name) (links : List Name) (i : ℕ) (p q : Name) (old new : List Rule) (next last : ℕ) → i < length links → p ≡ get_or links i p → q ≡ end_of holder (take i links) → AreMoves g g right y holder (take i links) old → GoesOn g right y p q old new next last → AreMoves g g right y holder (take (i + 1) links) new × (p ≡ end_of holder (take (i + 1) links))
-moves_next g right y holder links i p q old new next last lt is here moves on =
-    (subst (λ rules. AreMoves g g right y holder (take (i + 1) links) rules) (sym on.is) (subst (λ ps. AreMoves g g right y holder ps (old ++ on.move)) (sym taken) (moves_push g g right y holder (take i links) p old on.move moves (subst (λ u. IsMove g (after_all g old) right y p u on.move) here on.is_move))), subst (λ ps. p ≡ end_of holder ps) (sym taken) (end_push holder (take i links) p))
-  where
-    taken : take (i + 1) links ≡ take i links ++ p ∷ []
-    taken = take_more links i p lt ∙ ap (λ u. take i links ++ u ∷ []) (sym is)
+-- what held in the opening graph holds after the rules so far
+pub underway_from : (g : ProtectionGraph) (right : Right) (y q : Name) (rules : List Rule) (next : ℕ) → IsSoFar g rules next → IsTrue (g.holds q right y) → IsUnderway g right y q rules next
+underway_from g right y q rules next so_far has = record { so_far = so_far; gives = so_far.extends.triples q right y has }
+
+module _ (g : ProtectionGraph) (right : Right) (y holder : Name) (old : List Rule) (next : ℕ) where
+  pub carried_first : IsSoFar g old next → IsTrue (g.holds holder right y) → IsCarried g right y holder [] old old next next
+  carried_first so_far has = record {
+    underway = underway_from g right y holder old next so_far has;
+    kept = λ u other v h. h;
+    part = [];
+    moves = refl;
+    is = sym (append-nil old);
+    few = omega arith;
+    low = omega arith;
+  }
+
+  -- over one link more
+  carried_push : (links : List Name) (p : Name) (now new : List Rule) (number last : ℕ) → IsCarried g right y holder links old now next number → GoesOn g right y p (end_of holder links) now new number last → IsCarried g right y holder (links ++ p ∷ []) old new next last
+  carried_push links p now new number last c on = record {
+    underway = subst (λ u. IsUnderway g right y u new last) (end_push holder links p) on.underway;
+    kept = λ u other v h. on.kept u other v (c.kept u other v h);
+    part = c.part ++ on.move;
+    moves = moves_push g (after_all g old) right y holder links p c.part on.move c.moves (subst (λ t. IsMove g t right y p (end_of holder links) on.move) (ap (after_all g) c.is ∙ after_both g old c.part) on.is_move);
+    is = on.is ∙ ap (λ rs. rs ++ on.move) c.is ∙ append_assoc old c.part on.move;
+    few = omega (arith, c.few, on.few, ap length on.is, length-append now on.move, length-append c.part on.move, length-append links (p ∷ []));
+    low = omega (arith, c.low, on.low, length-append links (p ∷ []));
+  }
+
+  pub carried_next : (links : List Name) (i : ℕ) (p q : Name) (now new : List Rule) (number last : ℕ) → i < length links → p ≡ get_or links i p → q ≡ end_of holder (take i links) → IsCarried g right y holder (take i links) old now next number → GoesOn g right y p q now new number last → IsCarried g right y holder (take (i + 1) links) old new next last × (p ≡ end_of holder (take (i + 1) links))
+  carried_next links i p q now new number last lt is here c on =
+      (subst (λ ps. IsCarried g right y holder ps old new next last) (sym taken) (carried_push (take i links) p now new number last c (subst (λ u. GoesOn g right y p u now new number last) here on)), subst (λ ps. p ≡ end_of holder ps) (sym taken) (end_push holder (take i links) p))
+    where
+      taken : take (i + 1) links ≡ take i links ++ p ∷ []
+      taken = take_more links i p lt ∙ ap (λ u. take i links ++ u ∷ []) (sym is)
+
+  pub carried_whole : (links : List Name) (i : ℕ) (new : List Rule) (last : ℕ) → length links ≤ i → IsCarried g right y holder (take i links) old new next last → IsCarried g right y holder links old new next last
+  carried_whole links i new last le c = subst (λ ps. IsCarried g right y holder ps old new next last) (take_all i links le) c
 
 pub chain_next : (g : ProtectionGraph) (links : List Name) (i : ℕ) (p q v : Name) → i < length links → p ≡ get_or links i p → IsChain g q (drop i links) v → IsChain g p (drop (i + 1) links) v
 chain_next g links i p q v lt is chain =

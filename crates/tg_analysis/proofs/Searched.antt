@@ -10,7 +10,9 @@ use Rattle.tg_graph.specs.declared.right_sets.Right.{Right}
 use Rattle.tg_graph.specs.Graphs.{Name, same_name, ProtectionGraph, has_vertex, WellFormed}
 use Rattle.tg_graph.proofs.Rows.{same_bytes}
 use Rattle.tg_analysis.specs.Sharing.{linked, HeldInIsland}
-use Rattle.tg_analysis.specs.Searches.{Visits, is_among, with_met, IsMetBy, IsSearch, IsSearched, IsMetUpTo, IsInOrder, Grows, GoesRound}
+use Rattle.tg_analysis.specs.declared.chains.Search.{Search}
+use Rattle.tg_analysis.specs.Linked.{AreLinks}
+use Rattle.tg_analysis.specs.Searches.{Visits, is_among, with_met, IsMetBy, IsSearch, HasGoneRound, HasNoHolder, IsSearched, IsMetUpTo, IsInOrder, Grows, GoesRound, IsSearching, SearchesOn}
 use Rattle.tg_analysis.proofs.NameTests.{same_refl}
 use Rattle.tg_analysis.proofs.Places.{place_of, place-known}
 use Rattle.tg_analysis.proofs.Counts.{Distinct, distinct_le}
@@ -55,7 +57,7 @@ any-push t met v from h = go (or_cases (list_any t (keys_of met)) (list_any t (v
     go (inl e) = inl e
     go (inr e) = elim (or_cases (t v) false e) [ inl f ↦ inr f | inr f ↦ absurd (true≢false (sym f)) ]
 
-grows-refl : (met : Visits) → Grows met met
+pub grows-refl : (met : Visits) → Grows met met
 grows-refl met = record { places = λ k visit h. h; keys = λ v h. h }
 
 pub grows-then : (a b c : Visits) → Grows a b → Grows b c → Grows a c
@@ -148,15 +150,29 @@ order-met met v place o = go (list_any (same_name v) (keys_of met))
     go false = order-push met v place o
 
 -- ---- one more place
-module _ (g : ProtectionGraph) (right : Right) (y : Name) where
-  pub searched-start : (met : Visits) → IsSearched g right y met 0
-  searched-start met = record { none = λ k v from h e. absurd (omega arith); round = λ k v from w h e l. absurd (omega arith) }
+module _ (g : ProtectionGraph) where
+  -- what was met up to the place is one of those before, or stands there
+  both_parts : {P : ℕ → Name → Type 0} (old new : Visits) (place : ℕ) (visit : Name × ℕ) → slice_get old place ≡ Some visit → Grows old new → (k : ℕ) (v : Name) (from : ℕ) → k < place + 1 → slice_get new k ≡ Some (v, from) → ((k' : ℕ) (v' : Name) (from' : ℕ) → k' < place → slice_get old k' ≡ Some (v', from') → P k' v') → ((v' : Name) → visit.0 ≡ v' → P place v') → P k v
+  both_parts {P} old new place visit here grows k v from h e before at = go (cases_lt k place)
+    where
+      go : (k < place) ⊎ (place ≤ k) → P k v
+      go (inl lt) =
+          let within : k < length old = omega (arith, slice_get_within old place visit here) in
+          let old_visit = get_or old k visit in
+          let was : slice_get old k ≡ Some old_visit = slice_get-get_or old k visit within in
+          let now : slice_get new k ≡ Some old_visit = grows.places k old_visit was in
+          let same : old_visit ≡ (v, from) = cc in
+          before k v from lt (was ∙ ap Some same)
+      go (inr le) =
+          let is : k ≡ place = omega arith in
+          let now : slice_get new place ≡ Some visit = grows.places place visit here in
+          let there : slice_get new place ≡ Some (v, from) = subst (λ n. slice_get new n ≡ Some (v, from)) is e in
+          let same : visit ≡ (v, from) = cc in
+          subst (λ n. P n v) (sym is) (at v (ap (λ (t : Name × ℕ). t.0) same))
 
-  pub searched-next : (old new : Visits) (place : ℕ) (visit : Name × ℕ) → IsSearched g right y old place → slice_get old place ≡ Some visit → g.holds visit.0 right y ≡ false → GoesRound g place visit.0 old new → IsSearched g right y new (place + 1)
-  searched-next old new place visit s here none r = record {
-    none = λ k v from h e. both_parts {P = λ _ t. g.holds t right y ≡ false} k v from h e (λ k' v' from' lt p. s.none k' v' from' lt p) (λ v' same. subst (λ t. g.holds t right y ≡ false) same none);
-    round = λ k v from w h e l. both_parts {P = λ n t. IsTrue (linked g t w) → IsMetUpTo new n w} k v from h e (λ k' v' from' lt p. λ l'. still k' w (s.round k' v' from' w lt p l')) (λ v' same. λ l'. by_now w (r.round w (subst (λ t. IsTrue (linked g t w)) (sym same) l'))) l;
-  }
+  pub round-next : (old new : Visits) (place : ℕ) (visit : Name × ℕ) → HasGoneRound g old place → slice_get old place ≡ Some visit → GoesRound g place visit.0 old new → HasGoneRound g new (place + 1)
+  round-next old new place visit before here r =
+      λ k v from w h e l. both_parts {P = λ n t. IsTrue (linked g t w) → IsMetUpTo new n w} old new place visit here r.grows k v from h e (λ k' v' from' lt p. λ l'. still k' w (before k' v' from' w lt p l')) (λ v' same. λ l'. by_now w (r.round w (subst (λ t. IsTrue (linked g t w)) (sym same) l'))) l
     where
       still : (n : ℕ) (w : Name) → IsMetUpTo old n w → IsMetUpTo new n w
       still n w m = (m.0, m.1, m.2, r.grows.places m.0 (w, m.1) m.3)
@@ -167,23 +183,17 @@ module _ (g : ProtectionGraph) (right : Right) (y : Name) where
           let visit = key-visit new at.0 w at.1 in
           (at.0, visit.0, r.order.so_far at.0 w visit.0 visit.1, visit.1)
 
-      both_parts : {P : ℕ → Name → Type 0} (k : ℕ) (v : Name) (from : ℕ) → k < place + 1 → slice_get new k ≡ Some (v, from) → ((k' : ℕ) (v' : Name) (from' : ℕ) → k' < place → slice_get old k' ≡ Some (v', from') → P k' v') → ((v' : Name) → visit.0 ≡ v' → P place v') → P k v
-      both_parts {P} k v from h e before at = go (cases_lt k place)
-        where
-          go : (k < place) ⊎ (place ≤ k) → P k v
-          go (inl lt) =
-              let within : k < length old = omega (arith, slice_get_within old place visit here) in
-              let old_visit = get_or old k visit in
-              let was : slice_get old k ≡ Some old_visit = slice_get-get_or old k visit within in
-              let now : slice_get new k ≡ Some old_visit = r.grows.places k old_visit was in
-              let same : old_visit ≡ (v, from) = cc in
-              before k v from lt (was ∙ ap Some same)
-          go (inr le) =
-              let is : k ≡ place = omega arith in
-              let now : slice_get new place ≡ Some visit = r.grows.places place visit here in
-              let there : slice_get new place ≡ Some (v, from) = subst (λ n. slice_get new n ≡ Some (v, from)) is e in
-              let same : visit ≡ (v, from) = cc in
-              subst (λ n. P n v) (sym is) (at v (ap (λ (t : Name × ℕ). t.0) same))
+module _ (g : ProtectionGraph) (right : Right) (y : Name) where
+  pub holder-none : (met : Visits) → HasNoHolder g right y met 0
+  holder-none met = λ k v from h e. absurd (omega arith)
+
+  pub holder-next : (old new : Visits) (place : ℕ) (visit : Name × ℕ) → HasNoHolder g right y old place → slice_get old place ≡ Some visit → g.holds visit.0 right y ≡ false → Grows old new → HasNoHolder g right y new (place + 1)
+  holder-next old new place visit before here none grows =
+      λ k v from h e. both_parts g {P = λ _ t. g.holds t right y ≡ false} old new place visit here grows k v from h e (λ k' v' from' lt p. before k' v' from' lt p) (λ v' same. subst (λ t. g.holds t right y ≡ false) same none)
+
+  -- up to a place that the search has gone beyond
+  pub searched-to : (met : Visits) (place rounds : ℕ) → HasNoHolder g right y met place → place ≤ rounds → HasGoneRound g met rounds → IsSearched g right y met place
+  searched-to met place rounds none le round = record { none = none; round = λ k v from w h e l. round k v from w (omega (arith, h, le)) e l }
 
   -- a search that has gone round all that it met has met the whole island
   pub searched-whole : (x : Name) (met : Visits) (place : ℕ) → IsSearched g right y met place → slice_get met place ≡ None → slice_get (keys_of met) 0 ≡ Some x → HeldInIsland g right x y → ⊥
@@ -209,6 +219,36 @@ module _ (g : ProtectionGraph) (right : Right) (y : Name) where
           let visit = key-visit met at.0 a at.1 in
           let met_by = s.round at.0 a visit.0 b (below at.0 (a, visit.0) visit.1) visit.1 link in
           place-known (keys_of met) met_by.0 b (visit-key met met_by.0 (b, met_by.1) met_by.3)
+
+-- ---- a search that goes on
+pub start-known : (g : ProtectionGraph) (search : Search) → IsSearching g search → IsTrue (has_vertex g search.start)
+start-known g search is = is.is_search.known search.start (place-known (keys_of search.met) 0 search.start is.first)
+
+pub searches-same : (g : ProtectionGraph) (search : Search) → IsSearching g search → SearchesOn g search search
+searches-same g search is = record { searching = is; start = refl; grows = grows-refl search.met }
+
+pub searches-then : (g : ProtectionGraph) (a b c : Search) → SearchesOn g a b → SearchesOn g b c → SearchesOn g a c
+searches-then g a b c one other = record { searching = other.searching; start = other.start ∙ one.start; grows = grows-then a.met b.met c.met one.grows other.grows }
+
+-- the search has gone round the next vertex
+pub searches-round : (g : ProtectionGraph) (old new : Search) (place : ℕ) (vertex : Name) → IsSearching g old → slice_get (keys_of old.met) place ≡ Some vertex → place ≡ old.rounds → GoesRound g place vertex old.met new.met → new.links ≡ old.links → new.start ≡ old.start → new.rounds ≡ place + 1 → SearchesOn g old new
+searches-round g old new place vertex is here turn r links start rounds = record {
+  searching = record {
+    links = subst (λ ls. AreLinks g ls) (sym links) is.links;
+    is_search = r.search;
+    first = visit-key new.met 0 (old.start, began.0) (r.grows.places 0 (old.start, began.0) began.1) ∙ ap Some (sym start);
+    order = subst (λ n. IsInOrder new.met n) (sym rounds) (order-later new.met place (place + 1) (omega arith) r.order);
+    round = subst (λ n. HasGoneRound g new.met n) (sym rounds) (round-next g old.met new.met place (vertex, visit.0) (subst (λ n. HasGoneRound g old.met n) (sym turn) is.round) visit.1 r);
+  };
+  start = start;
+  grows = r.grows;
+}
+  where
+    began : (from : ℕ) × (slice_get old.met 0 ≡ Some (old.start, from))
+    began = key-visit old.met 0 old.start is.first
+
+    visit : (from : ℕ) × (slice_get old.met place ≡ Some (vertex, from))
+    visit = key-visit old.met place vertex here
 
 -- ---- a search meets no more vertices than there are
 distinct : (vs : List Name) → IsDistinct bytes_eq vs → Distinct same_name same_bytes vs

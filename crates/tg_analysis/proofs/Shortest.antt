@@ -1,5 +1,5 @@
 -- The way back from the first holder that a breadth-first search comes to is a shortest one.
-use Rattle.std.proofs.Common.{◌≡◌, ℕ, zero, suc, ◌+◌, ◌<◌, ◌≤◌, ◌⊎◌, inl, inr, List, [], ◌∷◌, length, Option, Some, None, get_or, slice_get, refl, sym, ap, ◌∙◌, subst, IsTrue, arith}
+use Rattle.std.proofs.Common.{◌≡◌, ℕ, zero, suc, ◌+◌, ◌<◌, ◌≤◌, ◌⊎◌, inl, inr, List, [], ◌∷◌, length, Some, get_or, slice_get, refl, sym, ◌∙◌, subst, IsTrue, arith}
 use Rattle.std.proofs.lemmas.Bool.{both_ways, cases_lt}
 use Rattle.std.proofs.lemmas.Option.{slice_get_within, slice_get-get_or}
 use Rattle.std.specs.Map.{keys_of}
@@ -16,7 +16,7 @@ abbrev pub IsWithin : Visits → ℕ → ℕ → Type 0
 IsWithin met place zero = place ≡ 0
 IsWithin met place (suc n) = (place ≡ 0) ⊎ ((v : Name) × (from : ℕ) × (slice_get met place ≡ Some (v, from)) × IsWithin met from n)
 
-module _ (g : ProtectionGraph) (met : Visits) (s : IsSearch g met) (right : Right) (y : Name) (place : ℕ) (order : IsInOrder met place) (searched : IsSearched g right y met place) where
+module _ (g : ProtectionGraph) (met : Visits) (s : IsSearch g met) (right : Right) (y : Name) (place rounds : ℕ) (order : IsInOrder met rounds) (searched : IsSearched g right y met place) where
   -- a place before is no further
   earlier_within : (n i j : ℕ) → i ≤ j → j < length met → IsWithin met j n → IsWithin met i n
   earlier_within zero i j le lt w = omega (arith, le, w)

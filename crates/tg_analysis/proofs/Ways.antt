@@ -1,5 +1,5 @@
 -- The way back from a vertex that a search has met.
-use Rattle.std.proofs.Common.{◌≡◌, ℕ, zero, suc, ◌<◌, ◌≤◌, ◌==◌, true, false, inl, inr, if◌then◌else◌, List, [], ◌∷◌, ◌++◌, Option, Some, None, slice_get, refl, sym, ap, ◌∙◌, subst, IsTrue, arith, bytes_eq}
+use Rattle.std.proofs.Common.{◌≡◌, ℕ, zero, suc, ◌<◌, ◌≤◌, true, false, inl, inr, List, [], ◌∷◌, ◌++◌, Option, Some, None, slice_get, refl, sym, ap, ◌∙◌, subst, IsTrue, arith, bytes_eq}
 use Rattle.std.proofs.lemmas.Bool.{true≢false, both_ways, or_cases, false_from_ne_true}
 use Rattle.std.specs.List.{list_any, IsDistinct, position}
 use Rattle.std.specs.Map.{keys_of}
@@ -109,12 +109,12 @@ module _ (g : ProtectionGraph) (met : Visits) (s : IsSearch g met) (apart : IsDi
           later e = (e.0, omega (arith, e.1, earlier_before), e.2)
 
   -- the way of a holder that the search comes to first
-  pub way-is : (right : Right) (y holder : Name) (place from : ℕ) (way : List Name) → slice_get met place ≡ Some (holder, from) → IsTrue (g.holds holder right y) → IsInOrder met place → IsSearched g right y met place → IsWayBack met place way → IsWay g right x y holder way
-  way-is right y holder place from way here held order searched back = record {
+  pub way-is : (right : Right) (y holder : Name) (place rounds from : ℕ) (way : List Name) → slice_get met place ≡ Some (holder, from) → IsTrue (g.holds holder right y) → IsInOrder met rounds → IsSearched g right y met place → IsWayBack met place way → IsWay g right x y holder way
+  way-is right y holder place rounds from way here held order searched back = record {
     held = held;
     joined = (way_from way place holder from back.0 here back.1 back.2).joined;
     apart = (way_from way place holder from back.0 here back.1 back.2).once;
-    shortest = shortest g met s right y place order searched way back.0 back.1 x first;
+    shortest = shortest g met s right y place rounds order searched way back.0 back.1 x first;
     none = λ has. short place way (start has) back;
   }
     where

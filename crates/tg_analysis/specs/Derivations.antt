@@ -37,17 +37,26 @@ pub record Extends (g : ProtectionGraph) (rules : List Rule) (made : List Name) 
   pub vertices : (after_all g rules).vertices ≡ g.vertices ++ made
   pub triples : (u : Name) (right : Right) (v : Name) → IsTrue (g.holds u right v) → IsTrue ((after_all g rules).holds u right v)
 
--- after the rules q has the right over y, each helper so far has a number below `next`, and the names of these numbers are in use
-pub record IsUnderway (g : ProtectionGraph) (right : Right) (y q : Name) (rules : List Rule) (next : ℕ) : Type 0 where
+-- the rules so far take nothing away; each helper that they make has a number below `next`, and the names of these numbers are in use
+pub record IsSoFar (g : ProtectionGraph) (rules : List Rule) (next : ℕ) : Type 0 where
   pub made : List Name
   pub extends : Extends g rules made
-  pub gives : IsTrue ((after_all g rules).holds q right y)
   pub helpers : (v : Name) → IsTrue (list_any (same_name v) made) → (k : ℕ) × (k < next) × (v ≡ helper_name k)
   pub used : (k : ℕ) → k < next → IsTrue (has_vertex (after_all g rules) (helper_name k))
+
+-- after the rules so far q has the right over y
+pub record IsUnderway (g : ProtectionGraph) (right : Right) (y q : Name) (rules : List Rule) (next : ℕ) : Type 0 where
+  pub so_far : IsSoFar g rules next
+  pub gives : IsTrue ((after_all g rules).holds q right y)
+
+-- what holds after the old rules holds after the new ones
+abbrev pub TakesNothing : ProtectionGraph → List Rule → List Rule → Type 0
+TakesNothing g old new = (u : Name) (right : Right) (v : Name) → IsTrue ((after_all g old).holds u right v) → IsTrue ((after_all g new).holds u right v)
 
 -- the right over y goes on from q to p by one move
 pub record GoesOn (g : ProtectionGraph) (right : Right) (y p q : Name) (old new : List Rule) (next last : ℕ) : Type 0 where
   pub underway : IsUnderway g right y p new last
+  pub kept : TakesNothing g old new
   pub move : List Rule
   pub is_move : IsMove g (after_all g old) right y p q move
   pub is : new ≡ old ++ move
@@ -60,25 +69,32 @@ end_of u [] = u
 end_of u (w ∷ ws) = end_of w ws
 
 -- the right over y has come from the holder over the links
-pub record IsCarried (g : ProtectionGraph) (right : Right) (y holder : Name) (links : List Name) (rules : List Rule) : Type 0 where
-  pub next : ℕ
-  pub underway : IsUnderway g right y (end_of holder links) rules next
-  pub moves : AreMoves g g right y holder links rules
-  pub few : length rules ≤ 4 * length links
+pub record IsCarried (g : ProtectionGraph) (right : Right) (y holder : Name) (links : List Name) (old new : List Rule) (next last : ℕ) : Type 0 where
+  pub underway : IsUnderway g right y (end_of holder links) new last
+  pub kept : TakesNothing g old new
+  pub part : List Rule
+  pub moves : AreMoves g (after_all g old) right y holder links part
+  pub is : new ≡ old ++ part
+  pub few : length part ≤ 4 * length links
+  pub low : last ≤ next + (most_vertices + 1) * length links
 
--- accepted rules that give x the right over y: the moves along a shortest chain to x from a vertex that held it, at most four for each link; none if x held it
-pub record IsDerivation (g : ProtectionGraph) (right : Right) (x y : Name) (rules : List Rule) : Type 0 where
-  pub accepted : AllAccepted g rules
-  pub gives : IsTrue ((after_all g rules).holds x right y)
+-- from the graph `now` on, the moves along a shortest chain to x from a vertex that held the right over y in the opening graph g, at most four for each link; none if x held it
+pub record IsPart (g now : ProtectionGraph) (right : Right) (x y : Name) (rules : List Rule) : Type 0 where
   pub holder : Name
   pub chain : List Name
   pub held : IsTrue (g.holds holder right y)
   pub joined : IsChain g holder chain x
   pub apart : NoRepeat (holder ∷ chain)
   pub shortest : IsShortest g right x y chain
-  pub moves : AreMoves g g right y holder chain rules
+  pub moves : AreMoves g now right y holder chain rules
   pub few : length rules ≤ 4 * length chain
   pub none : IsTrue (g.holds x right y) → rules ≡ []
+
+-- accepted rules that give x the right over y, and are the part of this right from the opening graph on
+pub record IsDerivation (g : ProtectionGraph) (right : Right) (x y : Name) (rules : List Rule) : Type 0 where
+  pub accepted : AllAccepted g rules
+  pub gives : IsTrue ((after_all g rules).holds x right y)
+  pub part : IsPart g g right x y rules
 
 -- four rules for each vertex but one are enough for a derivation
 abbrev pub DerivationsAreShort : Type 0

@@ -5,6 +5,7 @@ pub mod Flooding
 pub mod Spreading
 pub mod Moves
 pub mod Derivations
+pub mod SetDerivations
 pub mod Questions
 pub mod Searches
 pub mod Holdings

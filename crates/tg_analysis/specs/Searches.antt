@@ -5,7 +5,9 @@ use Rattle.std.specs.Map.{keys_of}
 use Rattle.std.specs.Option.{option_and_then}
 use Rattle.tg_graph.specs.declared.right_sets.Right.{Right}
 use Rattle.tg_graph.specs.Graphs.{Name, same_name, ProtectionGraph, has_vertex}
+use Rattle.tg_analysis.specs.declared.chains.Search.{Search}
 use Rattle.tg_analysis.specs.Sharing.{linked, IsChain, NoRepeat}
+use Rattle.tg_analysis.specs.Linked.{AreLinks}
 use Rattle.tg_analysis.specs.Moves.{IsShortest}
 
 -- the vertices in the order in which they were met, each with the place of the one by which it was met
@@ -59,10 +61,18 @@ pub record IsInOrder (met : Visits) (place : ℕ) : Type 0 where
   pub rising : (j k : ℕ) (v w : Name) (a b : ℕ) → j ≤ k → slice_get met j ≡ Some (v, a) → slice_get met k ≡ Some (w, b) → a ≤ b
   pub so_far : (k : ℕ) (v : Name) (from : ℕ) → slice_get met k ≡ Some (v, from) → from ≤ place
 
--- no vertex before the place holds the right over y, and each neighbour of one was met by that one or one before it
+-- each neighbour of a vertex before the place was met by that one or one before it
+abbrev pub HasGoneRound : ProtectionGraph → Visits → ℕ → Type 0
+HasGoneRound g met place = (k : ℕ) (v : Name) (from : ℕ) (w : Name) → k < place → slice_get met k ≡ Some (v, from) → IsTrue (linked g v w) → IsMetUpTo met k w
+
+-- no vertex before the place holds the right over y
+abbrev pub HasNoHolder : ProtectionGraph → Right → Name → Visits → ℕ → Type 0
+HasNoHolder g right y met place = (k : ℕ) (v : Name) (from : ℕ) → k < place → slice_get met k ≡ Some (v, from) → g.holds v right y ≡ false
+
+-- no vertex before the place holds the right over y, and the search has gone round each of them
 pub record IsSearched (g : ProtectionGraph) (right : Right) (y : Name) (met : Visits) (place : ℕ) : Type 0 where
-  pub none : (k : ℕ) (v : Name) (from : ℕ) → k < place → slice_get met k ≡ Some (v, from) → g.holds v right y ≡ false
-  pub round : (k : ℕ) (v : Name) (from : ℕ) (w : Name) → k < place → slice_get met k ≡ Some (v, from) → IsTrue (linked g v w) → IsMetUpTo met k w
+  pub none : HasNoHolder g right y met place
+  pub round : HasGoneRound g met place
 
 -- what was met is met, at the same place
 pub record Grows (old new : Visits) : Type 0 where
@@ -102,6 +112,20 @@ pub record GoesRound (g : ProtectionGraph) (place : ℕ) (u : Name) (old new : V
   pub search : IsSearch g new
   pub order : IsInOrder new place
   pub round : (w : Name) → IsTrue (linked g u w) → is_among w (keys_of new)
+
+-- a breadth-first search from its start has gone round the first of those that it has met
+pub record IsSearching (g : ProtectionGraph) (search : Search) : Type 0 where
+  pub links : AreLinks g search.links
+  pub is_search : IsSearch g search.met
+  pub first : slice_get (keys_of search.met) 0 ≡ Some search.start
+  pub order : IsInOrder search.met search.rounds
+  pub round : HasGoneRound g search.met search.rounds
+
+-- the search may have gone on, from the same start
+pub record SearchesOn (g : ProtectionGraph) (old new : Search) : Type 0 where
+  pub searching : IsSearching g new
+  pub start : new.start ≡ old.start
+  pub grows : Grows old.met new.met
 
 -- each vertex linked to the next, from the one that holds the right over y to x, none twice, on a shortest way; no link if x holds it
 pub record IsWay (g : ProtectionGraph) (right : Right) (x y holder : Name) (links : List Name) : Type 0 where

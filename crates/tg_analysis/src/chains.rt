@@ -1,11 +1,11 @@
 //! Chains of links from a vertex that holds a right.
-ghost use Rattle.std.specs.Prelude.{◌≡◌, ◌<◌, ◌+◌, [], Some, IsTrue, IfOk, OnOk, MatchOption, slice_get};
+ghost use Rattle.std.specs.Prelude.{◌≡◌, ◌<◌, ◌≤◌, ◌+◌, ◌^◌, [], Some, IsTrue, IfOk, OnOk, MatchOption, slice_get};
 ghost use Rattle.std.specs.Map.{keys_of};
 ghost use Rattle.tg_graph.specs.Graphs.{has_vertex, WellFormed};
 ghost use Rattle.tg_graph.specs.GraphOf.{graph_of};
 ghost use Rattle.tg_analysis.specs.Sharing.{HeldInIsland};
 ghost use Rattle.tg_analysis.specs.Linked.{AreLinks};
-ghost use Rattle.tg_analysis.specs.Searches.{AreNear, AddsUnmet, AreUnmet, IsBackwards, IsWayBack, IsSearch, IsInOrder, GoesRound, IsWay};
+ghost use Rattle.tg_analysis.specs.Searches.{AreNear, AddsUnmet, AreUnmet, IsBackwards, IsWayBack, IsSearch, IsInOrder, GoesRound, IsSearching, SearchesOn, IsWay};
 
 use crate::links::Links;
 use crate::met::Met;
@@ -109,36 +109,89 @@ fn way_back(alloc: Global, met: &Met, place: usize) -> Result<Vec<Name>, AllocEr
     Ok(way)
 }
 
-/// A shortest chain of links to `x` from a vertex that holds the right over `y`, if there is one.
-///
-/// It is found breadth first from `x`, neighbours in name order.
-/// The one error is want of memory.
-pub fn chain_to(
-    alloc: Global,
-    graph: &Graph,
-    right: Right,
-    x: Name,
-    y: Name,
-) -> Result<Option<Chain>, AllocError>
-    requires well_formed { WellFormed (graph_of graph.now) }
-    requires known { IsTrue (has_vertex (graph_of graph.now) x) }
-    ensures { IfOk result (λ chain. MatchOption chain
-        (HeldInIsland (graph_of graph.now) right x y → ⊥)
-        (λ chain. IsWay (graph_of graph.now) right x y chain.holder chain.links.items)) }
-{
-    let links = Links::of(alloc, graph)?;
-    let mut met = Met::from(alloc, x)?;
-    let mut place = 0;
-    while let Some(visit) = met.at(place) {
-        let vertex = visit.0;
-        if graph.holds(vertex, right, y) {
-            return Ok(Some(Chain {
-                holder: vertex,
-                links: way_back(alloc, &met, place)?,
-            }));
-        }
-        go_round(alloc, graph, &links, &mut met, place, vertex)?;
-        place += 1;
+/// A breadth-first search from a vertex, neighbours in name order. It goes on as far as it is asked
+/// to, and from there when it is asked again.
+#[derive(Drop)]
+pub struct Search {
+    links: Links,
+    start: Name,
+    met: Met,
+    // The neighbours of those before this place were met.
+    rounds: usize,
+}
+
+impl Search {
+    /// A search that has met its start alone.
+    ///
+    /// The one error is want of memory.
+    pub fn from(alloc: Global, graph: &Graph, start: Name) -> Result<Search, AllocError>
+        requires known { IsTrue (has_vertex (graph_of graph.now) start) }
+        ensures searching { IfOk result (λ search. IsSearching (graph_of graph.now) search) }
+        ensures start { IfOk result (λ search. search.start ≡ start) }
+    {
+        Ok(Search {
+            links: Links::of(alloc, graph)?,
+            start,
+            met: Met::from(alloc, start)?,
+            rounds: 0,
+        })
     }
-    Ok(None)
+
+    // Meets the neighbours of the vertex at a place, unless they were met.
+    fn follow(
+        &mut self,
+        alloc: Global,
+        graph: &Graph,
+        place: usize,
+        vertex: Name,
+    ) -> Result<(), AllocError>
+        requires well_formed { WellFormed (graph_of graph.now) }
+        requires searching { IsSearching (graph_of graph.now) self.old }
+        requires here { slice_get (keys_of self.old.met) place ≡ Some vertex }
+        requires in_turn { place ≤ self.old.rounds }
+        requires small { place < 2 ^ 63 }
+        ensures on { OnOk result (SearchesOn (graph_of graph.now) self.old self.new) }
+        ensures beyond { OnOk result (place + 1 ≤ self.new.rounds) }
+    {
+        if place < self.rounds {
+            return Ok(());
+        }
+        go_round(alloc, graph, &self.links, &mut self.met, place, vertex)?;
+        self.rounds = place + 1;
+        Ok(())
+    }
+
+    /// A shortest chain of links to the start from a vertex that holds the right over `y`, if there
+    /// is one: from the first such vertex in the order in which they are met.
+    ///
+    /// The one error is want of memory.
+    pub fn chain_to(
+        &mut self,
+        alloc: Global,
+        graph: &Graph,
+        right: Right,
+        y: Name,
+    ) -> Result<Option<Chain>, AllocError>
+        requires well_formed { WellFormed (graph_of graph.now) }
+        requires searching { IsSearching (graph_of graph.now) self.old }
+        ensures on { OnOk result (SearchesOn (graph_of graph.now) self.old self.new) }
+        ensures chain { IfOk result (λ chain. MatchOption chain
+            (HeldInIsland (graph_of graph.now) right self.old.start y → ⊥)
+            (λ chain.
+            IsWay (graph_of graph.now) right self.old.start y chain.holder chain.links.items)) }
+    {
+        let mut place = 0;
+        while let Some(visit) = self.met.at(place) {
+            let vertex = visit.0;
+            if graph.holds(vertex, right, y) {
+                return Ok(Some(Chain {
+                    holder: vertex,
+                    links: way_back(alloc, &self.met, place)?,
+                }));
+            }
+            self.follow(alloc, graph, place, vertex)?;
+            place += 1;
+        }
+        Ok(None)
+    }
 }

@@ -1,52 +1,101 @@
-//! Derivations: lists of rules that give a right.
-ghost use Rattle.std.specs.Prelude.{◌≡◌, ◌≤◌, IsTrue, IfOk, IfErr, OnOk, MatchOption, None, length};
+//! Derivations: lists of rules that give rights.
+ghost use Rattle.std.specs.Prelude.{◌≡◌, ◌≤◌, ◌^◌, IsTrue, IfOk, IfErr, OnOk, MatchOption, None, length};
 ghost use Rattle.tg_graph.specs.Graphs.{has_vertex, WellFormed};
 ghost use Rattle.tg_graph.specs.GraphOf.{graph_of};
 ghost use Rattle.tg_graph.specs.Limits.{most_vertices};
-ghost use Rattle.tg_graph.specs.RuleLists.{CanShare};
+ghost use Rattle.tg_graph.specs.RuleLists.{CanShare, CanShareAll};
 ghost use Rattle.tg_analysis.specs.Sharing.{IsChain};
-ghost use Rattle.tg_analysis.specs.Derivations.{end_of, IsCarried, IsDerivation};
+ghost use Rattle.tg_analysis.specs.Derivations.{end_of, IsSoFar, IsCarried, IsDerivation};
+ghost use Rattle.tg_analysis.specs.SetDerivations.{AddsPart, IsDerivationOfAll};
+ghost use Rattle.tg_analysis.specs.Searches.{IsSearching, SearchesOn};
 ghost use Rattle.tg_analysis.specs.Questions.{derivation_fault, IsDueFault};
 
-use crate::chains::chain_to;
+use crate::chains::Search;
 use crate::moves::add_move;
 use crate::questions::AskFault;
 use std::alloc::{AllocError, Global};
-use tg_graph::{Graph, MOST_VERTICES, Name, Right, Rule};
+use tg_graph::{Graph, MOST_VERTICES, Name, Right, Rights, Rule};
 
-// The rules by which the right over `y` goes from a holder along a chain of links.
+// Adds the rules by which the right over `y` goes from a holder along a chain of links.
+//
+// The numbers of the helpers so far are below `next`; the result takes its place.
 fn carry(
-    alloc: Global,
     graph: &Graph,
+    rules: &mut Vec<Rule>,
+    next: u32,
     right: Right,
     y: Name,
     holder: Name,
     links: &[Name],
-) -> Result<Vec<Rule>, AllocError>
+) -> Result<u32, AllocError>
     requires well_formed { WellFormed (graph_of graph.now) }
     requires small { length graph.now ≤ most_vertices }
     requires short { length links.now ≤ most_vertices }
     requires known { IsTrue (has_vertex (graph_of graph.now) y) }
+    requires so_far { IsSoFar (graph_of graph.now) rules.old.items next }
+    requires low { next ≤ 2 ^ 30 }
     requires held { IsTrue ((graph_of graph.now).holds holder right y) }
     requires joined { IsChain (graph_of graph.now) holder links.now (end_of holder links.now) }
-    ensures { IfOk result (λ rules.
-        IsCarried (graph_of graph.now) right y holder links.now rules.items) }
+    ensures { IfOk result (λ last.
+        IsCarried (graph_of graph.now) right y holder links.now
+        rules.old.items rules.new.items next last) }
 {
-    let mut rules = Vec::new(alloc);
-    let mut next = 0;
+    let mut number = next;
     let mut q = holder;
     for p in links {
-        next = add_move(graph, &mut rules, next, right, y, *p, q)?;
+        number = add_move(graph, rules, number, right, y, *p, q)?;
         q = *p;
     }
-    Ok(rules)
+    Ok(number)
 }
 
-// A list of rules that gives `x` the right over `y`, if there is one.
+// Adds the rules by which the start of the search gets the right over `y`; none where no list of
+// rules gives it.
+//
+// The numbers of the helpers so far are below `next`; the result takes its place.
+fn add_part(
+    alloc: Global,
+    graph: &Graph,
+    search: &mut Search,
+    rules: &mut Vec<Rule>,
+    next: u32,
+    right: Right,
+    y: Name,
+) -> Result<Option<u32>, AllocError>
+    requires well_formed { WellFormed (graph_of graph.now) }
+    requires small { length graph.now ≤ most_vertices }
+    requires known { IsTrue (has_vertex (graph_of graph.now) y) }
+    requires searching { IsSearching (graph_of graph.now) search.old }
+    requires so_far { IsSoFar (graph_of graph.now) rules.old.items next }
+    requires low { next ≤ 2 ^ 30 }
+    ensures on { OnOk result (SearchesOn (graph_of graph.now) search.old search.new) }
+    ensures part { IfOk result (λ last. MatchOption last
+        (CanShare (graph_of graph.now) right search.old.start y → ⊥)
+        (λ last. AddsPart (graph_of graph.now) right search.old.start y
+        rules.old.items rules.new.items next last)) }
+{
+    match search.chain_to(alloc, graph, right, y)? {
+        None => Ok(None),
+        Some(chain) => {
+            let last = carry(
+                graph,
+                rules,
+                next,
+                right,
+                y,
+                chain.holder,
+                chain.links.as_slice(),
+            )?;
+            Ok(Some(last))
+        }
+    }
+}
+
+// A list of rules that gives `x` each right of the set over `y`, if there is one.
 fn derive(
     alloc: Global,
     graph: &Graph,
-    right: Right,
+    rights: Rights,
     x: Name,
     y: Name,
 ) -> Result<Option<Vec<Rule>>, AllocError>
@@ -55,16 +104,60 @@ fn derive(
     requires known { IsTrue (has_vertex (graph_of graph.now) x) }
     requires known_too { IsTrue (has_vertex (graph_of graph.now) y) }
     ensures { IfOk result (λ answer. MatchOption answer
-        (CanShare (graph_of graph.now) right x y → ⊥)
-        (λ rules. IsDerivation (graph_of graph.now) right x y rules.items)) }
+        (CanShareAll (graph_of graph.now) rights x y → ⊥)
+        (λ rules. IsDerivationOfAll (graph_of graph.now) rights x y rules.items)) }
 {
-    match chain_to(alloc, graph, right, x, y)? {
-        None => Ok(None),
-        Some(chain) => {
-            let rules = carry(alloc, graph, right, y, chain.holder, chain.links.as_slice())?;
-            Ok(Some(rules))
+    let mut search = Search::from(alloc, graph, x)?;
+    let mut rules = Vec::new(alloc);
+    let mut next = 0;
+    for right in &Right::ALL {
+        if rights.has(*right) {
+            match add_part(alloc, graph, &mut search, &mut rules, next, *right, y)? {
+                Some(last) => next = last,
+                None => return Ok(None),
+            }
         }
     }
+    Ok(Some(rules))
+}
+
+/// One list of rules that gives `x` each right of the set over `y`, accepted one after another;
+/// none where no list does.
+///
+/// The rights come in the order of their letters, each with the rules that `derivation` gives for
+/// it alone, but for the helpers: along a shortest chain of links of this graph, by the cases that
+/// hold in this graph. A right that `x` has in this graph costs no rule. A helper is the vertex `_k`
+/// with the least number k that is not in use after the rules before. For the empty set the list is
+/// empty.
+///
+/// # Errors
+/// - `Unknown`: the first of `x` and `y` that is no vertex.
+/// - `TooLarge`: the graph has more than `MOST_VERTICES` vertices.
+/// - `Memory`: there was no memory.
+pub fn derivation_all(
+    alloc: Global,
+    graph: &Graph,
+    rights: Rights,
+    x: Name,
+    y: Name,
+) -> Result<Option<Vec<Rule>>, AskFault>
+    ensures due { OnOk result (derivation_fault (graph_of graph.now) x y ≡ None) }
+    ensures fault { IfErr result (IsDueFault (derivation_fault (graph_of graph.now) x y)) }
+    ensures answer { IfOk result (λ answer. MatchOption answer
+        (CanShareAll (graph_of graph.now) rights x y → ⊥)
+        (λ rules. IsDerivationOfAll (graph_of graph.now) rights x y rules.items)) }
+{
+    if !graph.knows(x) {
+        return Err(AskFault::Unknown(x));
+    }
+    if !graph.knows(y) {
+        return Err(AskFault::Unknown(y));
+    }
+    if graph.len() > MOST_VERTICES {
+        return Err(AskFault::TooLarge);
+    }
+    let answer = derive(alloc, graph, rights, x, y)?;
+    Ok(answer)
 }
 
 /// A list of rules that gives `x` the right over `y`, accepted one after another; none where no
@@ -92,15 +185,5 @@ pub fn derivation(
         (CanShare (graph_of graph.now) right x y → ⊥)
         (λ rules. IsDerivation (graph_of graph.now) right x y rules.items)) }
 {
-    if !graph.knows(x) {
-        return Err(AskFault::Unknown(x));
-    }
-    if !graph.knows(y) {
-        return Err(AskFault::Unknown(y));
-    }
-    if graph.len() > MOST_VERTICES {
-        return Err(AskFault::TooLarge);
-    }
-    let answer = derive(alloc, graph, right, x, y)?;
-    Ok(answer)
+    derivation_all(alloc, graph, Rights::of(right), x, y)
 }

@@ -6,8 +6,8 @@ use crate::memory_tests::three;
 use crate::questions::AskFault;
 use crate::table_faults::TableFault;
 use crate::test_answers::{
-    assert_no_table, assert_numbers, assert_table, derived, islands_of, shares, shares_all,
-    table_of,
+    all_derived, assert_no_table, assert_numbers, assert_table, derived, islands_of, shares,
+    shares_all, table_of,
 };
 use bitflags::Flags;
 use std::test::Fail;
@@ -39,6 +39,8 @@ fn questions_refused(rt: HostRuntime) -> Result<(), Fail> {
     assert!(rt; shares(rt.alloc(), &graph, Right::R, x, nobody).err() == unknown);
     assert!(rt; shares_all(rt.alloc(), &graph, Rights::READ, nobody, x).err() == unknown);
     assert!(rt; derived(rt.alloc(), &graph, Right::R, nobody, x).err() == unknown);
+    let rights = Rights::of(Right::R);
+    assert!(rt; all_derived(rt.alloc(), &graph, rights, x, nobody).err() == unknown);
     assert_no_table(&rt, rt.alloc(), &graph, 0, TableFault::Workers);
     Ok(())
 }

@@ -1,6 +1,7 @@
 //! Laws: what lists of rules can lead to, and how long a derivation is.
 ghost use Rattle.tg_analysis.specs.Sharing.{SharedExactly, NothingElse, FewRules, StaysWellFormed, TogetherAsAlone, FloodHasIsland, HelpersSuffice};
 ghost use Rattle.tg_analysis.specs.Derivations.{DerivationsAreShort};
+ghost use Rattle.tg_analysis.specs.SetDerivations.{OneRightAlone, DerivationsOfAllAreShort, CreatedAreNew};
 
 /// A right can be shared exactly where some vertex of the island holds it.
 pub fn shared_exactly()
@@ -40,4 +41,19 @@ pub fn helpers_suffice()
 /// A derivation has at most four rules for each vertex but one.
 pub fn derivations_are_short()
     ensures { DerivationsAreShort }
+{}
+
+/// Of a set of one right, a derivation of the set is one of the right.
+pub fn one_right_alone()
+    ensures { OneRightAlone }
+{}
+
+/// A derivation of a set has at most four rules for each right of it and each vertex but one.
+pub fn derivations_of_all_are_short()
+    ensures { DerivationsOfAllAreShort }
+{}
+
+/// Accepted rules create no name twice, and none that is a vertex before them.
+pub fn created_are_new()
+    ensures { CreatedAreNew }
 {}

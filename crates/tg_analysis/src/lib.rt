@@ -23,6 +23,8 @@ mod numbering;
 #[cfg(test)]
 mod question_tests;
 mod questions;
+#[cfg(test)]
+mod set_tests;
 mod spreading;
 mod table_faults;
 #[cfg(test)]
@@ -34,7 +36,7 @@ mod test_answers;
 mod test_graphs;
 
 pub use answers::{can_share, can_share_all};
-pub use derivations::derivation;
+pub use derivations::{derivation, derivation_all};
 pub use flooding::islands;
 pub use gates::{Gate, OpenGate};
 pub use numbering::Islands;

@@ -8,7 +8,7 @@ use crate::questions::AskFault;
 use crate::table_faults::TableFault;
 use crate::tables::PairTable;
 use crate::test_answers::{
-    assert_numbers, assert_table, derived, islands_of, shares, shares_all, table_of,
+    all_derived, assert_numbers, assert_table, derived, islands_of, shares, shares_all, table_of,
 };
 use std::alloc::{AllocError, Global};
 use std::test::Fail;
@@ -105,6 +105,37 @@ fn refused_questions_with_a_no(rt: HostRuntime) -> Result<(), Fail> {
     assert!(rt; shared(rt.alloc(), &graph, Right::W) == Ok(false));
     assert!(rt; shared_all(rt.alloc(), &graph, Rights::READ.union(Rights::WRITE)) == Ok(false));
     assert!(rt; rule_count_again(rt.alloc(), &graph, Right::W) == Ok(None));
+    Ok(())
+}
+
+// By how many rules _0 comes to have all rights of a set over _1.
+fn set_count(alloc: Global, graph: &Graph, rights: Rights) -> Result<Option<usize>, AskFault> {
+    let rules = all_derived(alloc, graph, rights, Name::helper(0), Name::helper(1))?;
+    Ok(rules.map(|rules| rules.len()))
+}
+
+fn set_count_again(
+    alloc: Global,
+    graph: &Graph,
+    rights: Rights,
+) -> Result<Option<usize>, AskFault> {
+    match set_count(alloc, graph, rights) {
+        Err(AskFault::Memory) => set_count(alloc, graph, rights),
+        outcome => outcome,
+    }
+}
+
+// _0 has g over _1, and _1 has r and w over itself: four rules for each of the two.
+#[test]
+fn refused_sets(rt: HostRuntime) -> Result<(), Fail> {
+    let mut graph = three(rt.alloc())?;
+    let y = Name::helper(1);
+    let both = Rights::of(Right::R).union(Rights::of(Right::W));
+    joined(&mut graph, y, y, both)?;
+    let all = both.union(Rights::of(Right::G));
+    assert!(rt; set_count_again(rt.alloc(), &graph, all) == Ok(Some(8)));
+    let more = all.union(Rights::of(Right::E));
+    assert!(rt; set_count_again(rt.alloc(), &graph, more) == Ok(None));
     Ok(())
 }
 

@@ -1,21 +1,10 @@
 use crate::questions::AskFault;
 use crate::test_answers::{derived, shares, shares_all};
-use crate::test_graphs::{graph, name, numbered, right, rule, set, word};
+use crate::test_graphs::{assert_rules, graph, name, numbered, right, set, word};
 use bitflags::Flags;
 use std::alloc::Global;
 use std::process::Abort;
-use tg_graph::{Graph, Name, Right, Rights, Rule};
-
-// The rules are those that a text says, with a comma after each but the last.
-fn assert_rules(rt: &impl Abort, rules: &[Rule], text: &str) {
-    let mut rest = rules.iter();
-    for line in text.split(',') {
-        if !line.is_empty() {
-            assert!(rt; rest.next() == Some(&rule(rt, line)));
-        }
-    }
-    assert!(rt; rest.next().is_none());
-}
+use tg_graph::{Graph, Name, Right, Rights};
 
 fn assert_shares(
     rt: &impl Abort,

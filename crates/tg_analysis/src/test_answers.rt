@@ -1,7 +1,7 @@
 //! Assertions of what islands, tables and questions answer. They tell nothing of what they saw, so
 //! the check of a test that makes many of them stays short.
 use crate::answers::{can_share, can_share_all};
-use crate::derivations::derivation;
+use crate::derivations::{derivation, derivation_all};
 use crate::flooding::islands;
 use crate::gates::{Gate, OpenGate};
 use crate::numbering::Islands;
@@ -11,6 +11,7 @@ use crate::tables::{PairTable, pair_table};
 use std::alloc::{AllocError, Global};
 use std::process::Abort;
 use std::thread::Threads;
+use tg_graph::laws::accepted_rules_are_run;
 use tg_graph::{Graph, Name, Right, Rights, Rule};
 
 /// The islands.
@@ -49,6 +50,36 @@ pub(crate) fn derived(
     y: Name,
 ) -> Result<Option<Vec<Rule>>, AskFault> {
     derivation(alloc, graph, right, x, y)
+}
+
+/// By which rules for each right of a set, if by any.
+pub(crate) fn all_derived(
+    alloc: Global,
+    graph: &Graph,
+    rights: Rights,
+    x: Name,
+    y: Name,
+) -> Result<Option<Vec<Rule>>, AskFault> {
+    derivation_all(alloc, graph, rights, x, y)
+}
+
+/// Carries out the rules for each right of a set, and says how many they are.
+pub(crate) fn carry_out_all(
+    rt: &impl Abort,
+    alloc: Global,
+    graph: &mut Graph,
+    rights: Rights,
+    x: Name,
+    y: Name,
+) -> usize {
+    accepted_rules_are_run();
+    match derivation_all(alloc, graph, rights, x, y) {
+        Ok(Some(rules)) => {
+            assert!(rt; graph.run(rules.as_slice()).is_ok());
+            rules.len()
+        }
+        _ => panic!(rt; "a derivation"),
+    }
 }
 
 /// Who can come to have r over whom.

@@ -12,11 +12,22 @@ pub(crate) fn name(rt: &impl Abort, word: &str) -> Name {
     Name::parse(word.as_bytes()).expect(rt, "a name")
 }
 
-/// The set of the letters.
+/// The set of the rights of these letters.
 pub(crate) fn set(rt: &impl Abort, letters: &str) -> Rights
     ensures { IsNamed result }
 {
     Rights::from_letters(letters.as_bytes()).expect(rt, "letters of rights")
+}
+
+/// The rules that a text says, with a comma after each but the last.
+pub(crate) fn assert_rules(rt: &impl Abort, rules: &[Rule], text: &str) {
+    let mut rest = rules.iter();
+    for line in text.split(',') {
+        if !line.is_empty() {
+            assert!(rt; rest.next() == Some(&rule(rt, line)));
+        }
+    }
+    assert!(rt; rest.next().is_none());
 }
 
 /// The right of a letter.

@@ -1,29 +1,32 @@
-use Rattle.std.proofs.Common.{◌<◌, length, refl, rules, arith}
+use Rattle.std.proofs.Common.{refl, arith}
+use Rattle.std.proofs.lemmas.List.{length-take-le}
 use Rattle.tg_graph.specs.GraphOf.{graph_of}
 use Rattle.tg_analysis.specs.Derivations.{end_of}
-use Rattle.tg_analysis.proofs.Moved.{underway_first, moves_next, chain_next}
+use Rattle.tg_analysis.proofs.Moved.{carried_first, carried_next, carried_whole, chain_next}
 use Rattle.tg_analysis.proofs.derivations.carry.Goals as goal
 
 pub loop-p-init : goal.loop-p-init
 loop-p-init c = record {
-  underway = underway_first (graph_of c.args.graph.now) c.args.right c.args.y c.args.holder c.new-rules.result.items c.new-rules.ensures.items c.requires.held;
-  moves = c.new-rules.ensures.items;
+  carried = carried_first (graph_of c.args.graph.now) c.args.right c.args.y c.args.holder c.args.rules.now.items c.args.next c.requires.so_far c.requires.held;
   here = refl;
   joined = c.requires.joined;
-  few = search rules;
-  low = search rules;
 }
+
+pub add_move-requires-clause-underway : goal.add_move-requires-clause-underway
+add_move-requires-clause-underway c = rw c.loop-p.invariant.here c.loop-p.invariant.carried.underway
+
+pub add_move-requires-clause-low : goal.add_move-requires-clause-low
+add_move-requires-clause-low c = omega (arith, c.loop-p.invariant.carried.low, length-take-le c.loop-p.p-index c.args.links.now (omega arith), c.requires.low, c.requires.short)
 
 pub loop-p-preserved : goal.loop-p-preserved
 loop-p-preserved c =
-    let on = c.in_ok-next.ensures in
     let before = c.loop-p.invariant in
-    let more = moves_next (graph_of c.args.graph.now) c.args.right c.args.y c.args.holder c.args.links.now c.loop-p.p-index c.p-item.result c.loop-p.q c.loop-p.rules.items c.add_move.new.rules.items c.loop-p.next c.in_ok-next.next (omega arith) c.p-item.is before.here before.moves on in
+    let more = carried_next (graph_of c.args.graph.now) c.args.right c.args.y c.args.holder c.args.rules.now.items c.args.next c.args.links.now c.loop-p.p-index c.p-item.result c.loop-p.q c.loop-p.rules.items c.add_move.new.rules.items c.loop-p.number c.in_ok-number.number (omega arith) c.p-item.is before.here before.carried c.in_ok-number.ensures in
     record {
-      underway = on.underway;
-      moves = more.0;
+      carried = more.0;
       here = more.1;
       joined = chain_next (graph_of c.args.graph.now) c.args.links.now c.loop-p.p-index c.p-item.result c.loop-p.q (end_of c.args.holder c.args.links.now) (omega arith) c.p-item.is before.joined;
-      few = omega (arith, on.few, before.few);
-      low = omega (arith, on.low, before.low);
     }
+
+pub returns : goal.returns
+returns c = carried_whole (graph_of c.args.graph.now) c.args.right c.args.y c.args.holder c.args.rules.now.items c.args.next c.args.links.now c.loop-p.p-index c.loop-p.rules.items c.loop-p.number (omega arith) c.loop-p.invariant.carried

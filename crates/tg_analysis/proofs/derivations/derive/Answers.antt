@@ -1,25 +1,46 @@
-use Rattle.std.proofs.Common.{List, sym, subst, arith}
-use Rattle.std.proofs.lemmas.Map.Entries.{length-keys_of}
+use Rattle.std.proofs.Common.{get_or, ap, sym, ◌∙◌, subst, arith}
+use Rattle.tg_graph.specs.declared.right_sets.Right.TheVariants.{T}
+use Rattle.tg_graph.specs.Letters.{all_rights}
 use Rattle.tg_graph.specs.Graphs.{Name}
 use Rattle.tg_graph.specs.GraphOf.{graph_of}
-use Rattle.tg_analysis.specs.Searches.{IsWay}
-use Rattle.tg_analysis.proofs.Derived.{derivation_is, way_short, way_joined, none_derives}
+use Rattle.tg_graph.specs.RuleLists.{CanShare}
+use Rattle.tg_analysis.specs.declared.chains.Search.{Search}
+use Rattle.tg_analysis.specs.SetDerivations.{AddsPart}
+use Rattle.tg_analysis.proofs.Moved.{so_far_none}
+use Rattle.tg_analysis.proofs.Parts.{parts_none, parts_skip, parts_next, parts_whole, not_all}
 use Rattle.tg_analysis.proofs.derivations.derive.Goals as goal
+use Rattle.tg_analysis.proofs.derivations.derive.Goals.{then-has+in_ok-last+in-Some, else-has}
 
-pub carry-requires-clause-short : goal.carry-requires-clause-short
-carry-requires-clause-short c =
-    let way = subst (λ (links : List Name). IsWay (graph_of c.args.graph.now) c.args.right c.args.x c.args.y c.in-Some.chain.holder links) (sym c.as_slice.ensures.value) (rw c.in-Some.is at c.in_ok-chain_to.ensures) in
-    omega (arith, way_short (graph_of c.args.graph.now) c.requires.well_formed c.args.right c.args.x c.args.y c.in-Some.chain.holder c.as_slice.result.now way, c.requires.small, length-keys_of c.args.graph.now)
-
-pub carry-requires-clause-joined : goal.carry-requires-clause-joined
-carry-requires-clause-joined c =
-    let way = subst (λ (links : List Name). IsWay (graph_of c.args.graph.now) c.args.right c.args.x c.args.y c.in-Some.chain.holder links) (sym c.as_slice.ensures.value) (rw c.in-Some.is at c.in_ok-chain_to.ensures) in
-    way_joined (graph_of c.args.graph.now) c.requires.well_formed c.args.right c.args.x c.args.y c.in-Some.chain.holder c.as_slice.result.now way
+pub loop-right-init : goal.loop-right-init
+loop-right-init c = record {
+  searching = c.in_ok-search.ensures.searching;
+  start = c.in_ok-search.ensures.start;
+  parts = parts_none (graph_of c.args.graph.now) c.args.rights c.args.x c.args.y c.new-rules.result.items c.new-rules.ensures.items (so_far_none (graph_of c.args.graph.now) c.new-rules.result.items c.new-rules.ensures.items);
+}
 
 pub returns-in-None : goal.returns-in-None
-returns-in-None c = none_derives (graph_of c.args.graph.now) c.requires.well_formed c.args.right c.args.x c.args.y c.requires.known c.requires.known_too (rw c.in-None.is at c.in_ok-chain_to.ensures)
+returns-in-None c =
+    let right = get_or all_rights c.loop-right.right-index T in
+    not_all (graph_of c.args.graph.now) c.args.rights right c.args.x c.args.y (sym c.has.ensures ∙ c.if-has.true)
+    (subst (λ (x : Name). CanShare (graph_of c.args.graph.now) right x c.args.y → ⊥) c.loop-right.invariant.start (rw c.in-None.is at c.in_ok-last.ensures.part))
 
-pub returns-in_ok-rules-in-Some : goal.returns-in_ok-rules-in-Some
-returns-in_ok-rules-in-Some c =
-    let way = subst (λ (links : List Name). IsWay (graph_of c.args.graph.now) c.args.right c.args.x c.args.y c.in-Some.chain.holder links) (sym c.as_slice.ensures.value) (rw c.in-Some.is at c.in_ok-chain_to.ensures) in
-    derivation_is (graph_of c.args.graph.now) c.requires.well_formed c.args.right c.args.x c.args.y c.in-Some.chain.holder c.as_slice.result.now c.in_ok-rules-in-Some.rules.items way c.in_ok-rules-in-Some.ensures
+pub loop-right-preserved : goal.loop-right-preserved
+loop-right-preserved c =
+    let graph = graph_of c.args.graph.now in
+    let right = get_or all_rights c.loop-right.right-index T in
+    let before = c.loop-right.invariant in
+    elim c.if-has.branch [
+      | then-has+in_ok-last+in-Some w ↦ record {
+        searching = rw w.search-is w.in_ok-last.ensures.on.searching;
+        start = ap (λ (s : Search). s.start) w.search-is ∙ w.in_ok-last.ensures.on.start ∙ before.start;
+        parts = rw (w.rules-is, w.next-is) (parts_next graph c.args.rights c.args.x c.args.y all_rights c.loop-right.right-index T c.loop-right.rules.items w.add_part.new.rules.items c.loop-right.next w.in-Some.last (omega arith) (sym c.has.ensures ∙ w.if-has.true) before.parts (subst (λ (x : Name). AddsPart graph right x c.args.y c.loop-right.rules.items w.add_part.new.rules.items c.loop-right.next w.in-Some.last) before.start (rw w.in-Some.is at w.in_ok-last.ensures.part)));
+      }
+      | else-has w ↦ record {
+        searching = rw w.search-is before.searching;
+        start = ap (λ (s : Search). s.start) w.search-is ∙ before.start;
+        parts = rw (w.rules-is, w.next-is) (parts_skip graph c.args.rights c.args.x c.args.y all_rights c.loop-right.right-index T c.loop-right.rules.items c.loop-right.next (omega arith) (sym c.has.ensures ∙ w.if-has.false) before.parts);
+      }
+    ]
+
+pub returns : goal.returns
+returns c = parts_whole (graph_of c.args.graph.now) c.args.rights c.args.x c.args.y c.loop-right.right-index c.loop-right.rules.items c.loop-right.next (omega arith) c.loop-right.invariant.parts
