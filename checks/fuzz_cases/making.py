@@ -3,7 +3,7 @@ from itertools import product
 
 from fuzz_cases.spoiling import Spoiler
 from model.graphs import FIRST, LETTERS, SECOND, Graph
-from model.texts import MOST_LINES
+from model.texts import MOST_EVENTS, MOST_RULES
 
 NAMES = ["a", "b", "c", "d", "e", "f", "_0", "_1", "_2", "v10", "z_9", "_", "abcdefghijklmnop"]
 FRESH = ["n", "m", "p0", "_3", "_10", "q"]
@@ -243,13 +243,13 @@ class Maker:
 
     def many_rules(self):
         """As many rules as there may be, or one more."""
-        count = self.chance.choice([MOST_LINES, MOST_LINES + 1])
+        count = self.chance.choice([MOST_RULES, MOST_RULES + 1])
         rules = b"remove a a r\n" * count
         return b"apply", [self.chance.choice([b"vertex a\n", b""]), rules], []
 
     def many_events(self):
         """As many events as there may be, or one more."""
-        count = self.chance.choice([MOST_LINES, MOST_LINES + 1])
+        count = self.chance.choice([MOST_EVENTS, MOST_EVENTS + 1])
         return b"run", [b"", b"seats 64\ncells 1\n" + b"64 commit\n" * count], []
 
     def many_commits(self):

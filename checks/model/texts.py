@@ -5,7 +5,8 @@ from dataclasses import dataclass, field
 from model.graphs import FIRST, LETTERS, VERSIONS, Graph
 
 MOST_LINE_BYTES = 256
-MOST_LINES = 65_536
+MOST_RULES = 131_072
+MOST_EVENTS = 65_536
 MOST_CELLS = 4_096
 MOST_SEATS = 64
 NAME = re.compile(rb"[a-z_][a-z0-9_]{0,15}")
@@ -176,7 +177,7 @@ class RulesReader(Reader):
         if kind not in RULES:
             return "bad-word"
         fault = kind_of_form(FORMS[kind], rest)
-        if fault or len(self.rules) >= MOST_LINES:
+        if fault or len(self.rules) >= MOST_RULES:
             return fault or "too-many"
         self.rules.append((number, texts(words)))
         return None
@@ -221,7 +222,7 @@ class ScriptReader(Reader):
             return fault
         if not is_number(seat, self.script.seats):
             return "bad-number"
-        if fault or len(self.script.events) >= MOST_LINES:
+        if fault or len(self.script.events) >= MOST_EVENTS:
             return fault or "too-many"
         self.script.events.append((number, int(seat), texts(act)))
         return None

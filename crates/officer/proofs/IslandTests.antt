@@ -1,39 +1,36 @@
 -- The numbers of islands tell which vertices lie in one island, and so which lines there are.
-use Rattle.std.proofs.Common.{◌≡◌, ℕ, Bool, true, false, cond, List, [], ◌∷◌, ◌++◌, Option, Some, None, refl, sym, ap, ◌∙◌, subst, slice_get, bytes_eq, nat_eq, map, filter}
+use Rattle.std.proofs.Common.{◌≡◌, ℕ, ◌<◌, Bool, true, false, ◌||◌, List, [], ◌∷◌, ◌++◌, length, get_or, Option, Some, None, refl, sym, ap, ◌∙◌, subst, slice_get, bytes_eq, nat_eq, filter, arith}
 use Rattle.std.specs.Prelude.{option_and_then}
 use Rattle.std.specs.List.{IsDistinct, flat_map}
-use Rattle.std.specs.Option.{option_eq}
+use Rattle.std.specs.Option.{option_eq, option_map_or}
 use Rattle.std.proofs.lemmas.Bool.{eqb-true, eq-eqb, false≢true}
-use Rattle.tg_graph.specs.Graphs.{Name, ProtectionGraph}
-use Rattle.tg_analysis.specs.Numbering.{AreIslands}
+use Rattle.std.proofs.lemmas.Option.{slice_get_within, slice_get-get_or}
+use Rattle.tg_graph.specs.Graphs.{Name, same_name, ProtectionGraph, has_vertex}
+use Rattle.tg_text.specs.Canonical.{in_name_order}
+use Rattle.tg_text.proofs.NameOrder.{among, among-in_order, same_name-refl}
+use Rattle.tg_analysis.specs.Numbering.{AreIslands, number_of}
 use Rattle.tg_analysis.proofs.Places.{place_of, position-at}
 use Rattle.officer.specs.Reports.{TellsIslands, islands_text, island_line}
-use Rattle.officer.specs.Outcomes.{numbered, with_number, numbered_text}
-use Rattle.tg_analysis.specs.Numbering.{number_of}
+use Rattle.officer.specs.Outcomes.{with_number, numbered_line, numbered_text}
+use Rattle.officer.proofs.OneReport.{either_true}
 
 -- the vertices have one number
 abbrev pub have_one_number : List Name → List ℕ → Name → Name → Bool
 have_one_number vs numbers v w = option_eq nat_eq (number_of vs numbers w) (number_of vs numbers v)
 
-kept : (t : Bool) (num : Name → Option ℕ) (w : Name) (entries : List (Name × Option ℕ)) (ws : List Name) → map (λ e. e.0) entries ≡ ws → map (λ e. e.0) (cond t ((w, num w) ∷ entries) entries) ≡ cond t (w ∷ ws) ws
-kept true num w entries ws h = ap (λ (vs : List Name). w ∷ vs) h
-kept false num w entries ws h = h
+-- ---- lines of numbered vertices
+module _ (vs : List Name) (numbers : List ℕ) where
+  line_is : (all : List Name) (v : Name) (k : ℕ) → number_of vs numbers v ≡ Some k → numbered_line vs numbers all v ≡ island_line v (filter (have_one_number vs numbers v) all)
+  line_is all v k e =
+      ap (λ (o : Option ℕ). option_map_or (λ n. island_line v (with_number vs numbers n all)) o []) e
+      ∙ sym (ap (λ (o : Option ℕ). island_line v (filter (λ w. option_eq nat_eq (number_of vs numbers w) o) all)) e)
 
-with_number_is : (num : Name → Option ℕ) (n : Option ℕ) (names : List Name) → with_number n (map (λ v. (v, num v)) names) ≡ filter (λ w. option_eq nat_eq (num w) n) names
-with_number_is num n [] = refl
-with_number_is num n (w ∷ ws) =
-    kept (option_eq nat_eq (num w) n) num w (filter (λ e. option_eq nat_eq e.1 n) (map (λ v. (v, num v)) ws)) (filter (λ w. option_eq nat_eq (num w) n) ws) (with_number_is num n ws)
-
-each_line : (num : Name → Option ℕ) (all names : List Name) → flat_map (λ (e : Name × Option ℕ). island_line e.0 (with_number e.1 (map (λ v. (v, num v)) all))) (map (λ v. (v, num v)) names) ≡ flat_map (λ v. island_line v (filter (λ w. option_eq nat_eq (num w) (num v)) all)) names
-each_line num all [] = refl
-each_line num all (v ∷ vs) =
-    let here : island_line v (with_number (num v) (map (λ u. (u, num u)) all)) ≡ island_line v (filter (λ w. option_eq nat_eq (num w) (num v)) all) = ap (island_line v) (with_number_is num (num v) all) in
-    ap (λ (t : List ℕ). t ++ flat_map (λ (e : Name × Option ℕ). island_line e.0 (with_number e.1 (map (λ u. (u, num u)) all))) (map (λ u. (u, num u)) vs)) here
-    ∙ ap (λ (t : List ℕ). island_line v (filter (λ w. option_eq nat_eq (num w) (num v)) all) ++ t) (each_line num all vs)
-
--- the lines of the numbered names are those of the islands
-pub numbered_text_is : (vs : List Name) (numbers : List ℕ) (names : List Name) → numbered_text (numbered vs numbers names) ≡ islands_text (have_one_number vs numbers) names
-numbered_text_is vs numbers names = each_line (number_of vs numbers) names names
+  lines_are : (all names : List Name) → ((v : Name) → among v names ≡ true → (k : ℕ) × (number_of vs numbers v ≡ Some k)) → flat_map (numbered_line vs numbers all) names ≡ flat_map (λ v. island_line v (filter (have_one_number vs numbers v) all)) names
+  lines_are all [] h = refl
+  lines_are all (v ∷ names) h =
+      let n = h v (ap (λ b. b || among v names) (same_name-refl v)) in
+      ap (λ (t : List ℕ). t ++ flat_map (numbered_line vs numbers all) names) (line_is all v n.0 n.1)
+      ∙ ap (λ (t : List ℕ). island_line v (filter (have_one_number vs numbers v) all) ++ t) (lines_are all names (λ u k. h u (either_true (same_name u v) (among u names) k)))
 
 same_option : (m n : Option ℕ) → option_eq nat_eq m n ≡ true → m ≡ n
 same_option None None h = refl
@@ -50,6 +47,19 @@ test_from m n e = let P : Option ℕ → Type 0 = λ k. option_eq nat_eq m k ≡
 
 number_is : (vs : List Name) (numbers : List ℕ) → IsDistinct bytes_eq vs → (v : Name) (a : ℕ) → slice_get vs a ≡ Some v → number_of vs numbers v ≡ slice_get numbers a
 number_is vs numbers apart v a e = ap (λ (o : Option ℕ). option_and_then (λ place. slice_get numbers place) o) (position-at vs apart a v e)
+
+-- each vertex has a number
+vertex_number : (g : ProtectionGraph) (numbers : List ℕ) → IsDistinct bytes_eq g.vertices → AreIslands g numbers → (v : Name) → has_vertex g v ≡ true → (k : ℕ) × (number_of g.vertices numbers v ≡ Some k)
+vertex_number g numbers apart are v h =
+    let place = place_of g.vertices v h in
+    let inside : place.0 < length numbers = omega (arith, are.len, slice_get_within g.vertices place.0 v place.1) in
+    (get_or numbers place.0 0, number_is g.vertices numbers apart v place.0 place.1 ∙ slice_get-get_or numbers place.0 0 inside)
+
+-- the lines of the vertices with their numbers are those of the islands
+pub numbered_text_is : (g : ProtectionGraph) (numbers : List ℕ) → IsDistinct bytes_eq g.vertices → AreIslands g numbers → numbered_text g.vertices numbers (in_name_order g.vertices) ≡ islands_text (have_one_number g.vertices numbers) (in_name_order g.vertices)
+numbered_text_is g numbers apart are =
+    let all = in_name_order g.vertices in
+    lines_are g.vertices numbers all all (λ v h. vertex_number g numbers apart are v (sym (among-in_order v g.vertices) ∙ h))
 
 -- one number is one island
 pub tells_islands : (g : ProtectionGraph) (numbers : List ℕ) → IsDistinct bytes_eq g.vertices → AreIslands g numbers → TellsIslands g (have_one_number g.vertices numbers)

@@ -1,7 +1,7 @@
 -- What the parts of a report's making bring.
-use Rattle.std.specs.Prelude.{◌≡◌, ⊤, All, ◌<◌, ℕ, nat_eq, bytes_eq, position, map, filter, option_and_then, Bool, true, false, unwrap_or, List, [], ◌∷◌, ◌++◌, ◌≤◌, length, Option, Some, None, Result, Ok, Err}
+use Rattle.std.specs.Prelude.{◌≡◌, ⊤, All, ◌<◌, ℕ, nat_eq, bytes_eq, position, map, filter, option_and_then, Bool, true, false, unwrap_or, List, [], ◌∷◌, ◌++◌, ◌≤◌, length, slice_index_or, Option, Some, None, Result, Ok, Err}
 use Rattle.std.specs.List.{flat_map}
-use Rattle.std.specs.Option.{option_eq}
+use Rattle.std.specs.Option.{option_eq, option_map_or}
 use Rattle.tg_graph.specs.declared.rules.Refusal.{Refusal}
 use Rattle.tg_graph.specs.declared.session.Reply.TheVariants.{Done, Refused}
 use Rattle.tg_graph.specs.Graphs.{Name, ProtectionGraph, has_vertex}
@@ -63,17 +63,21 @@ pub record HasPlayed (played : Played) (text text' : List ℕ) (end : Protection
   pub graph : end ≡ played.end
   pub verdict : status ≡ played.status
 
--- each name with its number
-abbrev pub numbered : List Name → List ℕ → List Name → List (Name × Option ℕ)
-numbered vs numbers names = map (λ v. (v, number_of vs numbers v)) names
+-- the names whose vertices have that number
+abbrev pub with_number : List Name → List ℕ → ℕ → List Name → List Name
+with_number vs numbers number names = filter (λ v. option_eq nat_eq (number_of vs numbers v) (Some number)) names
 
--- the names with that number
-abbrev pub with_number : Option ℕ → List (Name × Option ℕ) → List Name
-with_number number entries = map (λ e. e.0) (filter (λ e. option_eq nat_eq e.1 number) entries)
+-- under each number stand the names that have it
+abbrev pub AreGathered : List Name → List ℕ → List Name → List (List Name) → Type 0
+AreGathered vs numbers names gathered = (number : ℕ) → slice_index_or gathered number [] ≡ with_number vs numbers number names
 
--- the lines of the islands of names with their numbers
-abbrev pub numbered_text : List (Name × Option ℕ) → List ℕ
-numbered_text entries = flat_map (λ e. island_line e.0 (with_number e.1 entries)) entries
+-- the line of a vertex, if it is the least of those with its number
+abbrev pub numbered_line : List Name → List ℕ → List Name → Name → List ℕ
+numbered_line vs numbers names v = option_map_or (λ number. island_line v (with_number vs numbers number names)) (number_of vs numbers v) []
+
+-- the lines of the islands of vertices with these numbers
+abbrev pub numbered_text : List Name → List ℕ → List Name → List ℕ
+numbered_text vs numbers names = flat_map (numbered_line vs numbers names) names
 
 -- an act may be refused so, and it is told, or there was no memory
 abbrev pub MayBeToldFault : HallFault → Type 0

@@ -1,32 +1,85 @@
 //! The islands of a graph, as lines.
-ghost use Rattle.std.specs.Prelude.{◌≡◌, ◌++◌, ◌∷◌, [], false, IfOk, OnOk};
+ghost use Rattle.std.specs.Prelude.{◌≡◌, ◌++◌, ◌∷◌, [], IfOk, OnOk, replicate, slice_index_or};
 ghost use Rattle.std.specs.Map.{keys_of};
 ghost use Rattle.std.specs.List.{flat_map};
 ghost use Rattle.tg_graph.specs.GraphOf.{graph_of};
 ghost use Rattle.officer.specs.Reports.{AreIslandLines, island_line};
-ghost use Rattle.officer.specs.Outcomes.{report_text, numbered, with_number, numbered_text};
+ghost use Rattle.officer.specs.Outcomes.{report_text, AreGathered, numbered_text};
 
 use crate::outcome::Report;
 use std::alloc::{AllocError, Global};
+use std::marker::Model;
 use tg_analysis::{Islands, islands};
 use tg_graph::{Graph, Name};
 use tg_text::names_in_order;
 
-// The names with the numbers of their islands.
-fn numbered(
+// The names of one island, as far as they are gathered.
+#[derive(Drop)]
+struct Members {
+    names: Vec<Name>,
+}
+
+impl Model for Members {
+    ghost use Rattle.std.specs.Prelude.{List};
+    ghost use Rattle.tg_graph.specs.Graphs.{Name};
+
+    ghost Value = { List Name };
+
+    ghost view = { λ m. m.names.items };
+}
+
+impl Members {
+    fn new(alloc: Global) -> Members
+        ensures { result ≡ [] }
+    {
+        Members {
+            names: Vec::new(alloc),
+        }
+    }
+
+    fn add(&mut self, name: Name) -> Result<(), AllocError>
+        ensures { OnOk result (self.new ≡ self.old ++ name ∷ []) }
+    {
+        self.names.push(name)?;
+        Ok(())
+    }
+
+    fn as_slice(&self) -> &[Name]
+        ensures { result.now ≡ self.now }
+    {
+        self.names.as_slice()
+    }
+}
+
+// As many islands, without names.
+fn empty(alloc: Global, count: usize) -> Result<Vec<Members>, AllocError>
+    ensures { IfOk result (λ gathered. gathered.items ≡ replicate count []) }
+{
+    let mut gathered = Vec::with_capacity(alloc, count)?;
+    for _ in 0..count {
+        gathered.push(Members::new(alloc))?;
+    }
+    Ok(gathered)
+}
+
+// The names of each island, by its number.
+fn gathered(
     alloc: Global,
     graph: &Graph,
     islands: &Islands,
     names: &[Name],
-) -> Result<Vec<(Name, Option<usize>)>, AllocError>
+) -> Result<Vec<Members>, AllocError>
     ensures { IfOk result
-        (λ entries. entries.items ≡ numbered (keys_of graph.now) islands.now names.now) }
+        (λ gathered. AreGathered (keys_of graph.now) islands.now names.now gathered.items) }
 {
-    let mut entries = Vec::with_capacity(alloc, names.len())?;
+    let mut gathered = empty(alloc, islands.count())?;
     for name in names {
-        entries.push((*name, islands.number_of(graph, *name)))?;
+        if let Some(number) = islands.number_of(graph, *name) {
+            let island = &mut gathered[number];
+            island.add(*name)?;
+        }
     }
-    Ok(entries)
+    Ok(gathered)
 }
 
 // Appends names, each with a space before it.
@@ -55,42 +108,32 @@ fn append_line(text: &mut Vec<u8>, name: Name, island: &[Name]) -> Result<(), Al
     }
 }
 
-// The names with a number.
-fn with_number(
-    alloc: Global,
-    entries: &[(Name, Option<usize>)],
-    number: Option<usize>,
-) -> Result<Vec<Name>, AllocError>
-    ensures { IfOk result (λ names. names.items ≡ with_number number entries.now) }
+// The names that are gathered under a number.
+fn names_at(gathered: &[Members], number: usize) -> &[Name]
+    ensures { result.now ≡ slice_index_or gathered.now number [] }
 {
-    entries
-        .iter()
-        .filter(|entry| entry.1 == number)
-        .map(|entry| entry.0)
-        .collect(alloc)
-}
-
-// Whether the name is the first of those with the number. The line of each other one is empty.
-fn is_first(entries: &[(Name, Option<usize>)], name: Name, number: Option<usize>) -> bool
-    ensures { result ≡ false → island_line name (with_number number entries.now) ≡ [] }
-{
-    for entry in entries {
-        if entry.1 == number {
-            return name == entry.0;
-        }
+    match gathered.get(number) {
+        Some(island) => island.as_slice(),
+        None => &[],
     }
-    false
 }
 
-// The lines of the islands.
-fn lines_of(alloc: Global, entries: &[(Name, Option<usize>)]) -> Result<Vec<u8>, AllocError>
-    ensures { IfOk result (λ text. text.items ≡ numbered_text entries.now) }
+// The lines of the islands, whose names are gathered.
+fn lines_of(
+    alloc: Global,
+    graph: &Graph,
+    islands: &Islands,
+    names: &[Name],
+    gathered: &[Members],
+) -> Result<Vec<u8>, AllocError>
+    requires { AreGathered (keys_of graph.now) islands.now names.now gathered.now }
+    ensures { IfOk result
+        (λ text. text.items ≡ numbered_text (keys_of graph.now) islands.now names.now) }
 {
     let mut text = Vec::new(alloc);
-    for entry in entries {
-        if is_first(entries, entry.0, entry.1) {
-            let island = with_number(alloc, entries, entry.1)?;
-            append_line(&mut text, entry.0, &island)?;
+    for name in names {
+        if let Some(number) = islands.number_of(graph, *name) {
+            append_line(&mut text, *name, names_at(gathered, number))?;
         }
     }
     Ok(text)
@@ -102,9 +145,9 @@ pub(crate) fn islands_report(alloc: Global, graph: &Graph) -> Result<Report, All
 {
     let islands = islands(alloc, graph)?;
     let names = names_in_order(alloc, graph)?;
-    let entries = numbered(alloc, graph, &islands, &names)?;
+    let gathered = gathered(alloc, graph, &islands, &names)?;
     Ok(Report {
-        bytes: lines_of(alloc, &entries)?,
+        bytes: lines_of(alloc, graph, &islands, &names, &gathered)?,
         status: 0,
     })
 }

@@ -145,8 +145,12 @@ fn refuses_repeated<R: Abort + Threads + Sync + AllocGlobal>(
 
 #[test]
 fn most_rules(rt: HostRuntime) -> Result<(), Fail> {
-    let wanted = b"refused rules line 65537 too-many\n";
-    refuses_repeated(&rt, Command::Apply, b"", b"remove a a r\n", 65537, wanted)
+    let line = b"remove a a r\n";
+    let fewer = b"1 refused unknown a\ngraph\n";
+    refuses_repeated(&rt, Command::Apply, b"", line, 65537, fewer)?;
+    refuses_repeated(&rt, Command::Apply, b"", line, 131072, fewer)?;
+    let more = b"refused rules line 131073 too-many\n";
+    refuses_repeated(&rt, Command::Apply, b"", line, 131073, more)
 }
 
 #[test]

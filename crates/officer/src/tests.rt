@@ -303,6 +303,11 @@ fn islands(rt: HostRuntime) -> Result<(), Fail> {
             b"a b\nc\nd e\n".as_slice(),
             0,
         ),
+        (
+            b"vertex d\nvertex c\nvertex b\nvertex a\nedge d a t\n",
+            b"a d\nb\nc\n",
+            0,
+        ),
         (b"", b"", 0),
         (
             b"vertex b\nvertex a\nvertex b\n",

@@ -10,7 +10,7 @@ use Rattle.tg_text.specs.declared.rule_text.RuleLine.{RuleLine}
 use Rattle.tg_text.specs.declared.script_text.ScriptLine.{ScriptLine}
 use Rattle.tg_text.specs.declared.script_text.Header.{Header}
 use Rattle.tg_text.specs.declared.script_text.Header.TheVariants.{Nothing, Seats, Whole}
-use Rattle.tg_text.specs.Limits.{most_entries, most_line_bytes}
+use Rattle.tg_text.specs.Limits.{most_events, most_line_bytes, most_rules}
 use Rattle.tg_text.specs.Lines.{lines_of, words_of, is_skipped}
 use Rattle.tg_text.specs.Words.{Word}
 use Rattle.tg_text.specs.Reading.{◌>>=◌, after_line, after_lines}
@@ -69,7 +69,7 @@ rule_item_kinds : (n : ℕ) (rules : List RuleLine) (words : List Word) → faul
 unfolding rule_item rule_line
 rule_item_kinds n rules words =
     let form = form_in rule_forms words in
-    with_last (not (is_some form)) (has_other_count form words) (some_word is_bad_number form words) (some_word is_bad_name form words) (some_word are_bad_rights form words) (leb most_entries (length rules)) (rule_line n words) (λ (x : RuleLine). rules ++ x ∷ [])
+    with_last (not (is_some form)) (has_other_count form words) (some_word is_bad_number form words) (some_word is_bad_name form words) (some_word are_bad_rights form words) (leb most_rules (length rules)) (rule_line n words) (λ (x : RuleLine). rules ++ x ∷ [])
     (same_fault (rule_of_words words) (λ rule. record { line = n; rule = rule }) ∙ rule_kinds words)
 
 pub rule_line_kinds : RuleLineKinds
@@ -104,7 +104,7 @@ script_item_kinds n (Seats seats, lines) words = header_kinds (codes "cells") mo
 script_item_kinds n (Whole seats cells, lines) words =
     let form = event_form seats words in
     same_fault (event_item n seats lines words) (λ more. (Whole seats cells, more))
-    ∙ with_last (not (is_some form)) (has_other_count form words) (some_word is_bad_number form words) (some_word is_bad_name form words) (some_word are_bad_rights form words) (leb most_entries (length lines)) (event_of_words n seats words) (λ (x : ScriptLine). lines ++ x ∷ []) (event_kinds n seats words)
+    ∙ with_last (not (is_some form)) (has_other_count form words) (some_word is_bad_number form words) (some_word is_bad_name form words) (some_word are_bad_rights form words) (leb most_events (length lines)) (event_of_words n seats words) (λ (x : ScriptLine). lines ++ x ∷ []) (event_kinds n seats words)
 
 pub script_line_kinds : ScriptLineKinds
 script_line_kinds n made line kind =

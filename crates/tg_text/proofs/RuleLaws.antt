@@ -17,7 +17,7 @@ use Rattle.tg_text.specs.RuleText.{two_names, three_names, rule_of_words, rule_l
 use Rattle.tg_text.specs.RuleGrammar.{SpellsTwoNames, SpellsThreeNames, Spells, SpellsRule, IsRuleItem, RuleLinesAreThose, RulesTextsAreThose, RuleFaultsAreFirst}
 use Rattle.tg_text.proofs.Steps.{ok_is, bind_ok, else_ok, chosen, value_ok, word_is, name_ok, name_from, three_words_are, four_words_are}
 use Rattle.tg_text.proofs.GrammarLaws.{lines_ok, lines_from, lines_fault}
-use Rattle.tg_text.specs.Limits.{most_entries, most_line_bytes}
+use Rattle.tg_text.specs.Limits.{most_line_bytes, most_rules}
 
 abbrev Two : Type 0
 Two = Name × Name × Rights
@@ -167,14 +167,14 @@ rule_line_from n words rule e = ap (λ (r : Result Rule TextKind). r >>= λ rule
 pub rule_item_ok : (n : ℕ) (rules : List RuleLine) (words : List Word) (more : List RuleLine) → rule_item n rules words ≡ Ok more → IsRuleItem n rules words more
 unfolding rule_item
 rule_item_ok n rules words more e =
-    let i = item_ok most_entries rules (rule_line n words) more e in
+    let i = item_ok most_rules rules (rule_line n words) more e in
     let l = rule_line_ok n words i.0 i.1 in
     (l.0, rule_ok words l.0 l.1, i.2, i.3 ∙ ap (λ (x : RuleLine). rules ++ x ∷ []) l.2)
 
 pub rule_item_from : (n : ℕ) (rules : List RuleLine) (words : List Word) (more : List RuleLine) → IsRuleItem n rules words more → rule_item n rules words ≡ Ok more
 unfolding rule_item
 rule_item_from n rules words more h =
-    item_from most_entries rules (rule_line n words) (rule_at n h.0) more (rule_line_from n words h.0 (rule_from words h.0 h.1)) h.2 h.3
+    item_from most_rules rules (rule_line n words) (rule_at n h.0) more (rule_line_from n words h.0 (rule_from words h.0 h.1)) h.2 h.3
 
 pub rule_lines_are_those : RuleLinesAreThose
 rule_lines_are_those line rule = (

@@ -17,7 +17,7 @@ use Rattle.tg_text.specs.Canonical.{line_of}
 use Rattle.tg_text.specs.RoundTrips.{lines_of_rules, on_lines, ListsAreReadAsWritten}
 use Rattle.tg_text.proofs.PlainWords.{IsPlainWord, words-spaced, lines-spaced, line-is}
 use Rattle.tg_text.proofs.RuleBack.{words-back, plain-rule, short-rule}
-use Rattle.tg_text.specs.Limits.{most_entries, most_line_bytes}
+use Rattle.tg_text.specs.Limits.{most_line_bytes, most_rules}
 
 not_skipped : (rule : Rule) → is_skipped (rule_words rule) ≡ false
 not_skipped (Take x y z s) = refl
@@ -25,22 +25,22 @@ not_skipped (Grant x y z s) = refl
 not_skipped (Create x n s) = refl
 not_skipped (Remove x y s) = refl
 
-item-is : (n : ℕ) (made : List RuleLine) (rule : Rule) → IsRule rule → length made < most_entries → rule_item n made (rule_words rule) ≡ Ok (made ++ record { line = n; rule = rule } ∷ [])
+item-is : (n : ℕ) (made : List RuleLine) (rule : Rule) → IsRule rule → length made < most_rules → rule_item n made (rule_words rule) ≡ Ok (made ++ record { line = n; rule = rule } ∷ [])
 unfolding rule_item rule_line
 item-is n made rule p l =
-    let room : nat_le most_entries (length made) ≡ false = grind (arith, nat_tests) in
-    ap (λ r. with_item most_entries made (r >>= λ rule. Ok (record { line = n; rule = rule }))) (words-back rule p)
+    let room : nat_le most_rules (length made) ≡ false = grind (arith, nat_tests) in
+    ap (λ r. with_item most_rules made (r >>= λ rule. Ok (record { line = n; rule = rule }))) (words-back rule p)
     ∙ ap (λ b. if b then Err TooMany else Ok (made ++ record { line = n; rule = rule } ∷ [])) room
 
 -- the lines of rules, after those that made the first ones
-pub rules-read : (n : ℕ) (made : List RuleLine) (rules : List Rule) → AllByRecursion IsRule rules → length made + length rules ≤ most_entries
+pub rules-read : (n : ℕ) (made : List RuleLine) (rules : List Rule) → AllByRecursion IsRule rules → length made + length rules ≤ most_rules
     → after_lines rule_item n made (lines_of (lines_of_rules rules)) ≡ Ok (made ++ on_lines n rules)
 rules-read n made [] a l = ap Ok (sym (append-nil made))
 rules-read n made (rule ∷ rules) a l =
     let words = rule_words rule in
     let next : List RuleLine = record { line = n; rule = rule } ∷ [] in
-    let few : length (made ++ next) + length rules ≤ most_entries = omega (arith, l, length-append made next) in
-    let room : length made < most_entries = omega (arith, l) in
+    let few : length (made ++ next) + length rules ≤ most_rules = omega (arith, l, length-append made next) in
+    let room : length made < most_rules = omega (arith, l) in
     ap (after_lines rule_item n made) (lines-spaced words (lines_of_rules rules) (plain-rule rule a.0))
     ∙ ap (λ r. on_line n r >>= λ b. after_lines rule_item (n + 1) b (lines_of (lines_of_rules rules))) (line-is (rule_item n) made words (plain-rule rule a.0) (short-rule rule a.0) (not_skipped rule) ∙ item-is n made rule a.0 room)
     ∙ rules-read (n + 1) (made ++ next) rules a.1 few

@@ -28,7 +28,7 @@ use Rattle.tg_text.proofs.Steps.{ok_is, bind_ok, chosen, value_ok, word_is, name
 use Rattle.tg_text.proofs.GrammarLaws.{lines_ok, lines_from, lines_fault, cases_result, same_value, same_number}
 use Rattle.tg_text.proofs.RuleLaws.{rule_ok, rule_from, item_ok, item_from, keyword}
 use Rattle.tg_graph.specs.Limits.{most_cells, most_seats}
-use Rattle.tg_text.specs.Limits.{most_entries}
+use Rattle.tg_text.specs.Limits.{most_events}
 
 -- ---- numbers
 
@@ -173,9 +173,9 @@ seated_ok n (Err kind) (Err _) found e = absurd cc
 
 event_ok : (n seats : ℕ) (lines : List ScriptLine) (words : List Word) (more : List ScriptLine) → event_item n seats lines words ≡ Ok more → IsEventLine n seats lines words more
 unfolding event_item event_of_words
-event_ok n seats lines [] more e = absurd (let i = item_ok most_entries lines (event_of_words n seats []) more e in let other : event_of_words n seats [] ≡ Ok i.0 = i.1 in cc)
+event_ok n seats lines [] more e = absurd (let i = item_ok most_events lines (event_of_words n seats []) more e in let other : event_of_words n seats [] ≡ Ok i.0 = i.1 in cc)
 event_ok n seats lines (word ∷ words) more e =
-    let i = item_ok most_entries lines (seated n (number_up_to seats word) (act_of_words words)) more e in
+    let i = item_ok most_events lines (seated n (number_up_to seats word) (act_of_words words)) more e in
     let s = seated_ok n (number_up_to seats word) (act_of_words words) i.0 i.1 in
     record {
       word = word;
@@ -195,7 +195,7 @@ event_from n seats lines words more h =
     let read : event_of_words n seats (h.word ∷ h.rest) ≡ Ok (event_at n h.seat h.act) =
     ap (λ (r : Result ℕ TextKind). seated n r (act_of_words h.rest)) (number_from seats h.word h.seat h.number)
     ∙ ap (seated n (Ok h.seat)) (act_from h.rest h.act h.is_act) in
-    item_from most_entries lines (event_of_words n seats words) (event_at n h.seat h.act) more (ap (event_of_words n seats) h.spelled ∙ read) h.room h.makes
+    item_from most_events lines (event_of_words n seats words) (event_at n h.seat h.act) more (ap (event_of_words n seats) h.spelled ∙ read) h.room h.makes
 
 -- ---- the header
 

@@ -10,7 +10,7 @@ use Rattle.tg_text.specs.declared.rule_text.RuleLine.{RuleLine}
 use Rattle.tg_text.specs.declared.script_text.ScriptLine.{ScriptLine}
 use Rattle.tg_text.specs.declared.script_text.Header.{Header}
 use Rattle.tg_text.specs.declared.script_text.Header.TheVariants.{Nothing, Seats, Whole}
-use Rattle.tg_text.specs.Limits.{most_entries, most_line_bytes}
+use Rattle.tg_text.specs.Limits.{most_events, most_line_bytes, most_rules}
 use Rattle.tg_text.specs.Lines.{lines_of, words_of, is_skipped}
 use Rattle.tg_text.specs.Words.{Word, is_word}
 use Rattle.tg_text.specs.Reading.{after_line}
@@ -84,7 +84,7 @@ graph_condition made words kind = form_condition (form_in (graph_forms made.0) w
 
 -- of the words of a line of rules
 abbrev pub rule_condition : List RuleLine → List Word → TextKind → Bool
-rule_condition rules words TooMany = nat_le most_entries (length rules)
+rule_condition rules words TooMany = nat_le most_rules (length rules)
 rule_condition rules words kind = form_condition (form_in rule_forms words) words kind
 
 -- of a line that is to be one rule
@@ -101,7 +101,7 @@ is_whole (Whole seats cells) = true
 
 -- of the words of a line of a script
 abbrev pub script_condition : Header × List ScriptLine → List Word → TextKind → Bool
-script_condition made words TooMany = is_whole made.0 && nat_le most_entries (length made.1)
+script_condition made words TooMany = is_whole made.0 && nat_le most_events (length made.1)
 script_condition made words kind = form_condition (script_form made.0 words) words kind
 
 -- ---- the laws

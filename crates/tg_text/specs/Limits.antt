@@ -9,6 +9,10 @@ most_line_bytes = 256
 abbrev pub most_vertices_of_one : ℕ
 most_vertices_of_one = 1024
 
--- how many rules or events a text may have
-abbrev pub most_entries : ℕ
-most_entries = 65536
+-- how many rules a text of rules may have
+abbrev pub most_rules : ℕ
+most_rules = 131072
+
+-- how many events a script may have
+abbrev pub most_events : ℕ
+most_events = 65536

@@ -10,7 +10,7 @@ use Rattle.tg_text.specs.GraphText.{graph_text}
 use Rattle.tg_text.specs.Spelling.{rule_words, rule_text}
 use Rattle.tg_text.specs.Canonical.{line_of, canonical_text, in_name_order}
 use Rattle.tg_graph.specs.Limits.{most_vertices}
-use Rattle.tg_text.specs.Limits.{most_entries}
+use Rattle.tg_text.specs.Limits.{most_rules}
 
 -- the line of a rule writes that rule
 abbrev pub RulesAreReadAsWritten : Type 0
@@ -27,7 +27,7 @@ on_lines n (rule ∷ rules) = record { line = n; rule = rule } ∷ on_lines (n +
 
 -- Lines of rules write those rules, if they are no more than a text may have.
 abbrev pub ListsAreReadAsWritten : Type 0
-ListsAreReadAsWritten = (rules : List Rule) → AllByRecursion IsRule rules → length rules ≤ most_entries → rules_text (lines_of_rules rules) ≡ Ok (on_lines 1 rules)
+ListsAreReadAsWritten = (rules : List Rule) → AllByRecursion IsRule rules → length rules ≤ most_rules → rules_text (lines_of_rules rules) ≡ Ok (on_lines 1 rules)
 
 -- the graph with its vertices in name order
 abbrev pub in_order : ProtectionGraph → ProtectionGraph

@@ -12,7 +12,7 @@ use Rattle.tg_text.specs.Lines.{lines_of, words_of}
 use Rattle.tg_text.specs.Words.{Word}
 use Rattle.tg_text.specs.RuleText.{rule_of_line, rules_text}
 use Rattle.tg_text.specs.Grammar.{AreLines, IsFirstFault}
-use Rattle.tg_text.specs.Limits.{most_entries, most_line_bytes}
+use Rattle.tg_text.specs.Limits.{most_line_bytes, most_rules}
 
 -- two names and a set of rights
 pub record SpellsTwoNames (words : List Word) (x y : Name) (s : Rights) : Type 0 where
@@ -50,7 +50,7 @@ IsRuleLine line rule = (length line ≤ most_line_bytes) × SpellsRule (words_of
 
 -- one more rule, where there is room for it
 abbrev pub IsRuleItem : ℕ → List RuleLine → List Word → List RuleLine → Type 0
-IsRuleItem n rules words more = (rule : Rule) × SpellsRule words rule × (length rules < most_entries) × (more ≡ rules ++ record { line = n; rule = rule } ∷ [])
+IsRuleItem n rules words more = (rule : Rule) × SpellsRule words rule × (length rules < most_rules) × (more ≡ rules ++ record { line = n; rule = rule } ∷ [])
 
 -- the lines write the rules
 abbrev pub IsRulesText : List (List ℕ) → List RuleLine → Type 0

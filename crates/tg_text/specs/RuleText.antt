@@ -12,7 +12,7 @@ use Rattle.tg_text.specs.declared.rule_text.RuleLine.{RuleLine}
 use Rattle.tg_text.specs.Lines.{lines_of, words_of}
 use Rattle.tg_text.specs.Reading.{◌>>=◌, after_lines, with_item}
 use Rattle.tg_text.specs.Words.{Word, is_word, three_words, four_words, name_at, rights_at}
-use Rattle.tg_text.specs.Limits.{most_entries, most_line_bytes}
+use Rattle.tg_text.specs.Limits.{most_line_bytes, most_rules}
 
 -- two names and a set of rights
 unfoldable pub two_names : List Word → Result (Name × Name × Rights) TextKind
@@ -53,7 +53,7 @@ rule_line n words = rule_of_words words >>= λ rule. Ok (record { line = n; rule
 
 -- one more rule, of the line with this number
 unfoldable pub rule_item : ℕ → List RuleLine → List Word → Result (List RuleLine) TextKind
-rule_item n rules words = with_item most_entries rules (rule_line n words)
+rule_item n rules words = with_item most_rules rules (rule_line n words)
 
 -- the rules of a text, or the first faulty line and what is wrong with it
 unfoldable pub rules_text : List ℕ → Result (List RuleLine) (ℕ × TextKind)

@@ -16,7 +16,7 @@ use Rattle.tg_text.specs.ScriptText.{ScriptOf, script_text}
 use Rattle.tg_text.specs.Grammar.{AreLines, IsFirstFault}
 use Rattle.tg_text.specs.RuleGrammar.{Spells, SpellsRule}
 use Rattle.tg_graph.specs.Limits.{most_cells, most_seats}
-use Rattle.tg_text.specs.Limits.{most_entries}
+use Rattle.tg_text.specs.Limits.{most_events}
 
 -- a right and two names
 pub record SpellsQuestion (words : List Word) (right : Right) (x y : Name) : Type 0 where
@@ -55,7 +55,7 @@ pub record IsEventLine (n seats : ℕ) (lines : List ScriptLine) (words : List W
   pub spelled : words ≡ word ∷ rest
   pub number : SpellsNumber seats word seat
   pub is_act : SpellsAct rest act
-  pub room : length lines < most_entries
+  pub room : length lines < most_events
   pub makes : more ≡ lines ++ record { line = n; seat = seat; act = act } ∷ []
 
 -- first the seats, then the cells, and then the events

@@ -18,7 +18,7 @@ use Rattle.tg_text.specs.Reading.{◌>>=◌, after_lines, with_item}
 use Rattle.tg_text.specs.Words.{Word, is_word, no_words, three_words, name_at, right_at, number_up_to, header_number}
 use Rattle.tg_text.specs.RuleText.{rule_of_words}
 use Rattle.tg_graph.specs.Limits.{most_cells, most_seats}
-use Rattle.tg_text.specs.Limits.{most_entries}
+use Rattle.tg_text.specs.Limits.{most_events}
 
 -- a script without where it lies in memory
 pub record ScriptOf : Type 0 where
@@ -70,7 +70,7 @@ event_of_words n seats (word ∷ words) = seated n (number_up_to seats word) (ac
 
 -- one more event, of the line with this number
 unfoldable pub event_item : ℕ → ℕ → List ScriptLine → List Word → Result (List ScriptLine) TextKind
-event_item n seats lines words = with_item most_entries lines (event_of_words n seats words)
+event_item n seats lines words = with_item most_events lines (event_of_words n seats words)
 
 -- what a line adds to the header and the events that the earlier lines made
 unfoldable pub script_item : ℕ → Header × List ScriptLine → List Word → Result (Header × List ScriptLine) TextKind

@@ -188,13 +188,13 @@ fn rule_behind(
 ) -> Result<(), AllocError> {
     let text = repeated(alloc, rules, line, 1)?;
     let fault = read_rules(alloc, text.as_slice()).err();
-    assert!(rt; fault == Some(TextFault::At { line: 65537, kind }));
+    assert!(rt; fault == Some(TextFault::At { line: 131073, kind }));
     Ok(())
 }
 
 #[test]
 fn most_rules(rt: HostRuntime) -> Result<(), Fail> {
-    let rules = repeated(rt.alloc(), b"", b"remove a a r\n", 65536)?;
+    let rules = repeated(rt.alloc(), b"", b"remove a a r\n", 131072)?;
     assert!(rt; read_rules(rt.alloc(), rules.as_slice()).is_ok());
     rule_behind(&rt, &rules, b"remove a a r", TextKind::TooMany, rt.alloc())?;
     rule_behind(&rt, &rules, b"remove 9 a r", TextKind::BadName, rt.alloc())?;

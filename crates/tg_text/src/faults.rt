@@ -24,7 +24,7 @@ pub enum TextKind {
     UnknownVertex,
     /// An earlier line has the same source and target.
     DuplicateEdge,
-    /// `MOST_ENTRIES` rules or events are there already.
+    /// `MOST_RULES` rules, or `MOST_EVENTS` events, are there already.
     TooMany,
     /// The text ends before both header lines.
     NoHeader,

@@ -99,7 +99,7 @@ pub fn rules_are_read_as_written()
     ensures { RulesAreReadAsWritten }
 {}
 
-/// Rules that were written, one a line, are read as they were: up to `MOST_ENTRIES` of them.
+/// Rules that were written, one a line, are read as they were: up to `MOST_RULES` of them.
 pub fn lists_are_read_as_written()
     ensures { ListsAreReadAsWritten }
 {}

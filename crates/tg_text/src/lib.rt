@@ -29,7 +29,7 @@ mod writing_tests;
 pub use canonical::{names_in_order, write_graph};
 pub use faults::{TextFault, TextKind};
 pub use graph_text::read_graph;
-pub use limits::{MOST_ENTRIES, MOST_LINE_BYTES, MOST_VERTICES_OF_ONE};
+pub use limits::{MOST_EVENTS, MOST_LINE_BYTES, MOST_RULES, MOST_VERTICES_OF_ONE};
 pub use lines::{cut_line, cut_word};
 pub use rule_text::{RuleLine, read_rule, read_rules};
 pub use script_text::{Script, ScriptLine, read_script};

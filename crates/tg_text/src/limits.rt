@@ -9,5 +9,8 @@ pub const MOST_LINE_BYTES: usize = 256;
 /// How many vertices a graph's text of version 1 may have.
 pub const MOST_VERTICES_OF_ONE: usize = 1024;
 
-/// How many rules or events a text may have.
-pub const MOST_ENTRIES: usize = 65536;
+/// How many rules a text of rules may have.
+pub const MOST_RULES: usize = 131072;
+
+/// How many events a script may have.
+pub const MOST_EVENTS: usize = 65536;

@@ -8,7 +8,7 @@ ghost use Rattle.tg_text.specs.Reading.{Makes, Reads};
 ghost use Rattle.tg_text.specs.RuleText.{two_names, three_names, rule_of_words, rule_of_line, rule_item, rules_text, AreNamedLines};
 
 use crate::faults::{LineFault, TextFault, TextKind};
-use crate::limits::{MOST_ENTRIES, MOST_LINE_BYTES};
+use crate::limits::{MOST_LINE_BYTES, MOST_RULES};
 use crate::lines::cut_word;
 use crate::reading::{Items, read_lines};
 use crate::words::{four_words, name_at, rights_at, three_words};
@@ -101,7 +101,7 @@ fn add_rule(rules: &mut Vec<RuleLine>, line: usize, words: &[u8]) -> Result<(), 
     ensures named { OnOk result (AreNamedLines rules.new.items) }
 {
     let rule = rule_of_words(words)?;
-    if rules.len() >= MOST_ENTRIES {
+    if rules.len() >= MOST_RULES {
         return Err(LineFault::Kind(TextKind::TooMany));
     }
     rules.push(RuleLine { line, rule })?;
@@ -126,7 +126,7 @@ impl Items for Vec<RuleLine> {
 /// The rules of a text, with their lines.
 ///
 /// `At` names the first faulty line. Its kind is one of those of `read_rule`, or `TooMany` where
-/// there are `MOST_ENTRIES` rules already. `Memory` is answered where a growth was refused,
+/// there are `MOST_RULES` rules already. `Memory` is answered where a growth was refused,
 /// whatever stands further on.
 pub fn read_rules(alloc: Global, text: &[u8]) -> Result<Vec<RuleLine>, TextFault>
     ensures value { Reads (λ rules. rules.items) result (rules_text text.now) }

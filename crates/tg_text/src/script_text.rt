@@ -2,13 +2,13 @@
 ghost use Rattle.std.specs.Prelude.{◌≡◌, List, Ok, IfOk, OnOk};
 ghost use Rattle.tg_text.specs.declared.script_text.Header.{Header};
 ghost use Rattle.tg_text.specs.declared.script_text.ScriptLine.{ScriptLine};
-ghost use Rattle.tg_text.specs.Limits.{most_entries};
+ghost use Rattle.tg_text.specs.Limits.{most_events};
 ghost use Rattle.tg_text.specs.Lines.{words_of};
 ghost use Rattle.tg_text.specs.Reading.{Makes, Reads, with_item};
 ghost use Rattle.tg_text.specs.ScriptText.{right_and_names, act_alone, act_of_words, seated, event_of_words, event_item, script_item, script_text, script_of, IsNamedAct, AreNamedEvents, IsWithinLimits};
 
 use crate::faults::{LineFault, TextFault, TextKind};
-use crate::limits::MOST_ENTRIES;
+use crate::limits::MOST_EVENTS;
 use crate::lines::cut_word;
 use crate::reading::{Items, read_lines};
 use crate::rule_text::rule_of_words;
@@ -134,11 +134,11 @@ fn push_event(
 ) -> Result<(), LineFault>
     requires named { IsNamedAct act }
     requires all_named { AreNamedEvents lines.old.items }
-    ensures made { Makes (with_item most_entries lines.old.items
+    ensures made { Makes (with_item most_events lines.old.items
         (Ok (record { line = line; seat = seat; act = act }))) result lines.new.items }
     ensures named { OnOk result (AreNamedEvents lines.new.items) }
 {
-    if lines.len() >= MOST_ENTRIES {
+    if lines.len() >= MOST_EVENTS {
         return Err(LineFault::Kind(TextKind::TooMany));
     }
     // Without a step at hand the check does not learn what an event holds.
@@ -212,7 +212,7 @@ impl Items for ScriptItems {
 /// The script of a text.
 ///
 /// `At` names the first faulty line, and the first of these that it has: `LineTooLong`, `BadWord`,
-/// `WordCount`, `BadNumber`, `BadName`, `BadRights`, `TooMany` where there are `MOST_ENTRIES`
+/// `WordCount`, `BadNumber`, `BadName`, `BadRights`, `TooMany` where there are `MOST_EVENTS`
 /// events already. Where the text ends before both header lines it is `NoHeader`, on the line
 /// behind the last. `Memory` is answered where a growth was refused, whatever stands further on.
 pub fn read_script(alloc: Global, text: &[u8]) -> Result<Script, TextFault>

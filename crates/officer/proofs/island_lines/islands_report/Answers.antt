@@ -4,7 +4,7 @@ use Rattle.tg_graph.specs.GraphOf.{graph_of}
 use Rattle.tg_text.specs.Canonical.{in_name_order}
 use Rattle.officer.specs.Readings.{ReportText}
 use Rattle.officer.specs.Reports.{islands_text}
-use Rattle.officer.specs.Outcomes.{numbered, numbered_text}
+use Rattle.officer.specs.Outcomes.{numbered_text}
 use Rattle.officer.proofs.IslandTests.{have_one_number, numbered_text_is, tells_islands}
 use Rattle.officer.proofs.island_lines.islands_report.Goals as goal
 
@@ -13,8 +13,8 @@ returns c =
     let g = graph_of c.args.graph.now in
     let vs = keys_of c.args.graph.now in
     let numbers = c.in_ok-islands.islands in
-    let names = c.deref.ensures.value ∙ c.in_ok-names.ensures.names in
-    let entries = c.deref-2.ensures.value ∙ (c.in_ok-entries.ensures ∙ ap (numbered vs numbers) names) in
-    let text : c.in_ok-lines_of.field-0.items ≡ islands_text (have_one_number vs numbers) (in_name_order vs) = c.in_ok-lines_of.ensures ∙ (ap numbered_text entries ∙ numbered_text_is vs numbers (in_name_order vs)) in
+    let apart = c.in_ok-names.ensures.graph.apart in
+    let names = c.deref-2.ensures.value ∙ c.in_ok-names.ensures.names in
+    let text : c.in_ok-lines_of.field-0.items ≡ islands_text (have_one_number vs numbers) (in_name_order vs) = c.in_ok-lines_of.ensures ∙ (ap (numbered_text vs numbers) names ∙ numbered_text_is g numbers apart c.in_ok-islands.ensures) in
     let F : List ℕ → ReportText = λ bytes. record { bytes = bytes; status = 0 } in
-    (have_one_number vs numbers, tells_islands g numbers c.in_ok-names.ensures.graph.apart c.in_ok-islands.ensures, ap F text)
+    (have_one_number vs numbers, tells_islands g numbers apart c.in_ok-islands.ensures, ap F text)

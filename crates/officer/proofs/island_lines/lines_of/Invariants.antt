@@ -1,8 +1,8 @@
 use Rattle.std.proofs.Common.{◌≡◌, take}
+use Rattle.std.specs.Map.{keys_of}
 use Rattle.std.specs.List.{flat_map}
-use Rattle.officer.specs.Reports.{island_line}
-use Rattle.officer.specs.Outcomes.{with_number}
+use Rattle.officer.specs.Outcomes.{numbered_line}
 use Rattle.officer.proofs.island_lines.lines_of.Given as goal
 
-abbrev pub invariant-loop-entry : goal.invariant-loop-entry
-invariant-loop-entry l = l.text.items ≡ flat_map (λ e. island_line e.0 (with_number e.1 l.entries)) (take l.entry-index l.entries)
+abbrev pub invariant-loop-name : goal.invariant-loop-name
+invariant-loop-name l = l.text.items ≡ flat_map (numbered_line (keys_of l.graph) l.islands l.names) (take l.name-index l.names)
