@@ -1,6 +1,6 @@
 -- A flood from one vertex: what was met stays in its island, and at the end is all of it.
-use Rattle.std.proofs.Common.{◌≡◌, ℕ, ◌+◌, ◌*◌, cond, ◌<◌, ◌≤◌, Bool, true, false, ◌&&◌, ◌⊎◌, inl, inr, List, [], ◌∷◌, ◌++◌, length, replicate, Option, Some, None, get_or, slice_get, is_some, nat_eq, bytes_eq, refl, sym, ap, ◌∙◌, subst, IsTrue, arith, lit<, length-append}
-use Rattle.std.specs.Prelude.{not, count_by, MatchBool}
+use Rattle.std.proofs.Common.{◌≡◌, ℕ, ◌+◌, ◌*◌, cond, ◌<◌, ◌≤◌, Bool, true, false, ◌&&◌, ◌⊎◌, inl, inr, List, [], ◌∷◌, length, replicate, Option, Some, None, get_or, slice_get, is_some, nat_eq, bytes_eq, refl, sym, ap, ◌∙◌, subst, IsTrue, arith, lit<, length-append}
+use Rattle.std.specs.Prelude.{not, count_by}
 use Rattle.std.specs.List.{list_any, position}
 use Rattle.std.specs.Map.{keys_of}
 use Rattle.std.specs.Option.{option_and_then}
@@ -9,7 +9,6 @@ use Rattle.std.proofs.lemmas.List.{get_or-replicate, length-replicate}
 use Rattle.std.proofs.Math.ListN.{get_or-eq_default}
 use Rattle.std.proofs.lemmas.Option.{slice_get_within, slice_get-get_or}
 use Rattle.std.proofs.lemmas.List.Folds.{sum_by-replicate}
-use Rattle.std.proofs.lemmas.Map.Entries.{length-keys_of}
 use Rattle.tg_graph.specs.declared.right_sets.Right.{Right}
 use Rattle.tg_graph.specs.declared.right_sets.Rights.{Rights}
 use Rattle.tg_graph.specs.Sets.{member, rights_where, is_empty_set, nothing, IsNamed}
@@ -22,11 +21,11 @@ use Rattle.tg_analysis.specs.declared.spreading.Asked.{Asked}
 use Rattle.tg_analysis.specs.declared.spreading.Spread.{Spread}
 use Rattle.tg_analysis.specs.Sharing.{linked, InOneIsland, HeldInIsland}
 use Rattle.tg_analysis.specs.Linked.{neighbours, is_near, linked_end, AddsNeighbour}
-use Rattle.tg_analysis.specs.Flooding.{number_in, number_at, work_left, IsOneOf, Meets, MeetsEnds}
-use Rattle.tg_analysis.specs.Spreading.{IsMet, HoldsAt, HoldsNone, IsMissing, BeginsAt, Follows, FollowsOn, ReadsEdge, ReadsUpTo, ReadsMet, Reads, IsSpread, HasRead, IsAtRest, RunsOut}
+use Rattle.tg_analysis.specs.Flooding.{number_in, number_at, work_left, IsOneOf, Meets}
+use Rattle.tg_analysis.specs.Spreading.{IsMet, HoldsNone, IsMissing, BeginsAt, FollowsOn, ReadsEdge, ReadsUpTo, Reads, IsSpread, HasRead, IsAtRest, RunsOut}
 use Rattle.tg_analysis.proofs.Places.{position-at, place_of, place-known, holds-row}
 use Rattle.tg_analysis.proofs.OneIsland.{linked_sym, island_refl, island_link, island_trans}
-use Rattle.tg_analysis.proofs.Linked.{edge-linked, linked-edge, row_past, row_there, end_within, place_within}
+use Rattle.tg_analysis.proofs.Linked.{edge-linked, linked-edge, row_there, end_within, place_within}
 use Rattle.tg_analysis.proofs.Floods.{flood_has_island}
 use Rattle.tg_analysis.proofs.FloodSteps.{some_kept, one_of-append, one_of-left, one_of-right, one_of-single, single-one_of, TakesLast}
 use Rattle.tg_analysis.proofs.Underway.{linked_ends}
@@ -85,10 +84,11 @@ module _ (es : Entries) (i : ℕ) where
 
       go : (o : Option ℕ) → linked_end es i here ≡ o → ReadsUpTo es i (here + 1) s u
       go None none =
-          let same : u.back ≡ t.back = e.3 none in
+          let same : u.back ≡ t.back = e.4 none in
           record {
             flood = e.0 ∙ m.flood;
             followed = e.1 ∙ m.followed;
+            missing = e.2 ∙ m.missing;
             len = ap length same ∙ m.len;
             kept = λ b c h. ap (λ lists. is_near lists b c) same ∙ m.kept b c h;
             from = λ b c h. m.from b c (ap (λ lists. is_near lists b c) (sym same) ∙ h);
@@ -100,6 +100,7 @@ module _ (es : Entries) (i : ℕ) where
       go (Some end) some = record {
         flood = e.0 ∙ m.flood;
         followed = e.1 ∙ m.followed;
+        missing = e.2 ∙ m.missing;
         len = adds.len ∙ m.len;
         kept = λ b c h. adds.near b c ∙ or_left (is_near t.back b c) _ (m.kept b c h);
         from = λ b c h. from b c (or_cases (is_near t.back b c) (nat_eq b end && nat_eq c i) (sym (adds.near b c) ∙ h));
@@ -107,10 +108,10 @@ module _ (es : Entries) (i : ℕ) where
       }
         where
           adds : AddsNeighbour t.back u.back end i
-          adds = (e.2 end some).1
+          adds = (e.3 end some).1
 
           unmet : (b : ℕ) → b ≡ end → IsMet s b → ⊥
-          unmet b is met = (e.2 end some).0 (ap (λ flood. is_some (number_at flood end)) m.flood ∙ subst (λ n. IsMet s n) is met)
+          unmet b is met = (e.3 end some).0 (ap (λ flood. is_some (number_at flood end)) m.flood ∙ subst (λ n. IsMet s n) is met)
 
           from : (b c : ℕ) → (is_near t.back b c ≡ true) ⊎ ((nat_eq b end && nat_eq c i) ≡ true) → (is_near s.back b c ≡ true) ⊎ ((c ≡ i) × (IsMet s b → ⊥) × (place : ℕ) × (linked_end es i place ≡ Some b))
           from b c (inl h) = m.from b c h
@@ -124,8 +125,8 @@ module _ (es : Entries) (i : ℕ) where
               let is : b ≡ end = cc in
               adds.near b i ∙ or_right (is_near t.back b i) _ ((λ k. eq-eqb b end is k && eq-eqb i i refl k))
 
-  pub reads-met : (here : ℕ) (s t u v : Spread) → ReadsUpTo es i here s t → ReadsEdge es i here true t u → Meets (i ∷ []) u.flood v.flood → v.back ≡ u.back → v.followed ≡ u.followed → Reads es i s v
-  reads-met here s t u v m e meets back followed = inr (record {
+  pub reads-met : (here : ℕ) (s t u v : Spread) → ReadsUpTo es i here s t → ReadsEdge es i here true t u → Meets (i ∷ []) u.flood v.flood → v.back ≡ u.back → v.followed ≡ u.followed → v.missing ≡ u.missing → Reads es i s v
+  reads-met here s t u v m e meets back followed missing = inr (record {
     here = here;
     between = u;
     reads = subst (λ w. ReadsUpTo es i here s w) (sym e.3) m;
@@ -135,7 +136,13 @@ module _ (es : Entries) (i : ℕ) where
     meets = meets;
     back = back;
     followed = followed;
+    missing = missing;
   })
+
+  -- a row that is read leaves what is missing
+  pub reads_missing : (s t : Spread) → Reads es i s t → t.missing ≡ s.missing
+  reads_missing s t (inl r) = r.missing
+  reads_missing s t (inr r) = r.missing ∙ r.reads.missing
 
 module _ (es : Entries) (ok : IsGraph es) (asked : Asked) where
   abbrev g : ProtectionGraph
@@ -331,7 +338,7 @@ module _ (es : Entries) (ok : IsGraph es) (asked : Asked) where
 
     pub spread-follows : (s t : Spread) → IsSpread es asked missing (p ∷ s.flood.waiting.items) s → HoldsNone g missing asked.y p → FollowsOn es p s t → IsSpread es asked missing t.flood.waiting.items t
     spread-follows s t is idle (inl f) =
-        let between : Spread = record { flood = f.between; back = s.back; followed = s.followed } in
+        let between : Spread = record { flood = f.between; back = s.back; followed = s.followed; missing = s.missing } in
         spread-drop missing p t.flood.waiting.items t (spread-from (neighbours s.back p) between t (spread-from f.ahead.positions s between is f.ahead.meets refl refl (λ a h. let e = f.ahead.only a h in (e.0, inr e.1))) f.behind f.back f.followed (λ a h. let e = is.back_from a p h in (e.0, inl e.1))) idle (λ place b e. some_kept f.between t.flood f.behind.kept b (f.ahead.meets.met b (f.ahead.all place b (place_within es p place b e) e))) (λ a near. f.behind.met a (ap (λ lists. is_near lists p a) (sym f.back) ∙ near))
     spread-follows s t is idle (inr all) =
         subst (λ u. IsSpread es asked missing u.flood.waiting.items u) (sym all.1) (spread-drop missing p s.flood.waiting.items s is idle (λ place b e. all.0 b (end_within es ok p place b e)) (λ a near. let e = is.back_from a p near in all.0 a (row_there es ok a e.0 p e.1)))
@@ -340,6 +347,10 @@ module _ (es : Entries) (ok : IsGraph es) (asked : Asked) where
   pub follows_back : (p : ℕ) (s t : Spread) → FollowsOn es p s t → t.back ≡ s.back
   follows_back p s t (inl f) = f.back
   follows_back p s t (inr all) = ap (λ u. u.back) all.1
+
+  pub follows_missing : (p : ℕ) (s t : Spread) → FollowsOn es p s t → t.missing ≡ s.missing
+  follows_missing p s t (inl f) = f.missing
+  follows_missing p s t (inr all) = ap (λ u. u.missing) all.1
 
   pub follows_grows : (p : ℕ) (s t : Spread) → FollowsOn es p s t → (a : ℕ) → IsMet s a → IsMet t a
   follows_grows p s t (inl f) a h = some_kept f.between t.flood f.behind.kept a (some_kept s.flood f.between f.ahead.meets.kept a h)
@@ -414,8 +425,8 @@ module _ (es : Entries) (ok : IsGraph es) (asked : Asked) where
             inl (r.meets.met a (subst (λ n. IsOneOf n (i ∷ [])) (sym same) (single-one_of i)))
 
   -- ---- the begin
-  pub spread-begins : (missing : Rights) (count start : ℕ) (s : Spread) → count ≡ length (keys_of es) → slice_get (keys_of es) start ≡ Some asked.x → BeginsAt count start s → IsSpread es asked missing s.flood.waiting.items s
-  spread-begins missing count start s whole at b = record {
+  pub spread-begins : (missing rights : Rights) (count start : ℕ) (s : Spread) → count ≡ length (keys_of es) → slice_get (keys_of es) start ≡ Some asked.x → BeginsAt count start rights s → IsSpread es asked missing s.flood.waiting.items s
+  spread-begins missing rights count start s whole at b = record {
     len = b.meets.len ∙ ap length b.clear ∙ length-replicate {A = Option ℕ} count None ∙ whole;
     back_len = ap length b.back ∙ length-replicate {A = List ℕ} count [] ∙ whole;
     count = omega (arith, b.meets.work, ap (λ numbers. count_by (λ number. not (is_some number)) numbers) b.clear, fresh_count count, ap length b.calm, b.followed, whole);

@@ -1,5 +1,5 @@
 -- A flood from one vertex that looks for holders of rights.
-use Rattle.std.specs.Prelude.{◌≡◌, ℕ, ◌<◌, ◌+◌, Bool, true, false, IsTrue, List, [], ◌∷◌, length, replicate, slice_get, Option, Some, None, is_some, ◌⊎◌}
+use Rattle.std.specs.Prelude.{◌≡◌, ℕ, ◌<◌, ◌+◌, Bool, true, false, IsTrue, List, [], ◌∷◌, length, replicate, slice_get, Some, None, is_some, ◌⊎◌}
 use Rattle.std.specs.Map.{keys_of}
 use Rattle.tg_graph.specs.declared.right_sets.Right.{Right}
 use Rattle.tg_graph.specs.declared.right_sets.Rights.{Rights}
@@ -33,14 +33,15 @@ pub record IsMissing (es : Entries) (asked : Asked) (missing : Rights) : Type 0 
   pub among : (right : Right) → IsTrue (member missing right) → IsTrue (member asked.rights right)
   pub found : (right : Right) → IsTrue (member asked.rights right) → IsTrue (member missing right) ⊎ HeldInIsland (graph_of es) right asked.x asked.y
 
--- the start alone was met, and waits
-pub record BeginsAt (count start : ℕ) (spread : Spread) : Type 0 where
+-- the start alone was met, and waits, and all the rights are missing
+pub record BeginsAt (count start : ℕ) (rights : Rights) (spread : Spread) : Type 0 where
   pub before : Flood
   pub clear : before.numbers.items ≡ replicate count None
   pub calm : before.waiting.items ≡ []
   pub meets : Meets (start ∷ []) before spread.flood
   pub back : spread.back ≡ replicate count []
   pub followed : spread.followed ≡ 0
+  pub missing : spread.missing ≡ rights
 
 -- what is linked to the position was met, by its row and by its list
 pub record Follows (es : Entries) (a : ℕ) (old new : Spread) : Type 0 where
@@ -49,6 +50,7 @@ pub record Follows (es : Entries) (a : ℕ) (old new : Spread) : Type 0 where
   pub behind : Meets (neighbours old.back a) between new.flood
   pub back : new.back ≡ old.back
   pub followed : new.followed ≡ old.followed
+  pub missing : new.missing ≡ old.missing
 
 -- so, or each position was met before
 abbrev pub FollowsOn : Entries → ℕ → Spread → Spread → Type 0
@@ -58,7 +60,7 @@ FollowsOn es a old new = Follows es a old new ⊎ (((b : ℕ) → b < length (ke
 abbrev pub ReadsEdge : Entries → ℕ → ℕ → Bool → Spread → Spread → Type 0
 ReadsEdge es a place true old new = (b : ℕ) × (linked_end es a place ≡ Some b) × IsMet old b × (new ≡ old)
 ReadsEdge es a place false old new =
-    (new.flood ≡ old.flood) × (new.followed ≡ old.followed)
+    (new.flood ≡ old.flood) × (new.followed ≡ old.followed) × (new.missing ≡ old.missing)
     × ((b : ℕ) → linked_end es a place ≡ Some b → (IsMet old b → ⊥) × AddsNeighbour old.back new.back b a)
     × (linked_end es a place ≡ None → new.back ≡ old.back)
 
@@ -66,6 +68,7 @@ ReadsEdge es a place false old new =
 pub record ReadsUpTo (es : Entries) (a here : ℕ) (old new : Spread) : Type 0 where
   pub flood : new.flood ≡ old.flood
   pub followed : new.followed ≡ old.followed
+  pub missing : new.missing ≡ old.missing
   pub len : length new.back ≡ length old.back
   pub kept : (b c : ℕ) → is_near old.back b c ≡ true → is_near new.back b c ≡ true
   pub from : (b c : ℕ) → is_near new.back b c ≡ true → (is_near old.back b c ≡ true) ⊎ ((c ≡ a) × (IsMet old b → ⊥) × (place : ℕ) × (linked_end es a place ≡ Some b))
@@ -82,6 +85,7 @@ pub record ReadsMet (es : Entries) (a : ℕ) (old new : Spread) : Type 0 where
   pub meets : Meets (a ∷ []) between.flood new.flood
   pub back : new.back ≡ between.back
   pub followed : new.followed ≡ between.followed
+  pub missing : new.missing ≡ between.missing
 
 abbrev pub Reads : Entries → ℕ → Spread → Spread → Type 0
 Reads es a old new = ReadsUpTo es a (length (row_number es a)) old new ⊎ ReadsMet es a old new

@@ -41,12 +41,14 @@ struct Spread {
     back: Links,
     // How many positions were met and taken.
     followed: usize,
+    // The rights that are asked for and that no position which was taken holds.
+    missing: Rights,
 }
 
 impl Spread {
-    fn from(alloc: Global, count: usize, start: usize) -> Result<Spread, AllocError>
+    fn from(alloc: Global, count: usize, start: usize, rights: Rights) -> Result<Spread, AllocError>
         requires { start < count }
-        ensures { IfOk result (λ spread. BeginsAt count start spread) }
+        ensures { IfOk result (λ spread. BeginsAt count start rights spread) }
     {
         let mut flood = Flood::new(alloc, count)?;
         flood.meet(start)?;
@@ -54,6 +56,7 @@ impl Spread {
             flood,
             back: Links::none(alloc, count)?,
             followed: 0,
+            missing: rights,
         })
     }
 
@@ -84,27 +87,25 @@ impl Spread {
         Ok(())
     }
 
-    // Goes on until no right is missing, or nothing is left to follow. What is given are the rights
-    // that are missing then.
-    fn run(&mut self, graph: &Graph, asked: &Asked, missing: Rights) -> Result<Rights, AllocError>
+    // Goes on until no right is missing, or nothing is left to follow.
+    fn run(&mut self, graph: &Graph, asked: &Asked) -> Result<(), AllocError>
         requires graph { IsGraph graph.now }
-        requires missing { IsMissing graph.now asked.now missing }
-        requires spread { IsSpread graph.now asked.now missing
+        requires missing { IsMissing graph.now asked.now self.old.missing }
+        requires spread { IsSpread graph.now asked.now self.old.missing
             self.old.flood.waiting.items self.old }
-        ensures missing { IfOk result (IsMissing graph.now asked.now) }
-        ensures end { IfOk result (λ left. IsTrue (is_empty_set left)
-            ⊎ RunsOut graph.now asked.now left self.old self.new) }
+        ensures missing { OnOk result (IsMissing graph.now asked.now self.new.missing) }
+        ensures end { OnOk result (IsTrue (is_empty_set self.new.missing)
+            ⊎ RunsOut graph.now asked.now self.new.missing self.old self.new) }
     {
-        let mut missing = missing;
         while let Some(position) = self.flood.waiting.pop() {
             self.followed += 1;
-            missing = missing.difference(graph.rights_at(position, asked.y));
-            if missing.is_empty() {
-                return Ok(missing);
+            self.missing = self.missing.difference(graph.rights_at(position, asked.y));
+            if self.missing.is_empty() {
+                return Ok(());
             }
             self.follow_on(graph, position)?;
         }
-        Ok(missing)
+        Ok(())
     }
 
     // Notes the edge at a place in the row of a position that was not met, unless it leads to one
@@ -146,48 +147,42 @@ impl Spread {
     }
 
     // Reads the row of a position, if it was not met, and goes on from there.
-    fn visit(
-        &mut self,
-        graph: &Graph,
-        asked: &Asked,
-        position: usize,
-        missing: Rights,
-    ) -> Result<Rights, AllocError>
+    fn visit(&mut self, graph: &Graph, asked: &Asked, position: usize) -> Result<(), AllocError>
         requires graph { IsGraph graph.now }
-        requires missing { IsMissing graph.now asked.now missing }
-        requires rest { IsAtRest graph.now asked.now missing position self.old }
+        requires missing { IsMissing graph.now asked.now self.old.missing }
+        requires rest { IsAtRest graph.now asked.now self.old.missing position self.old }
         requires within { position < length (keys_of graph.now) }
-        ensures missing { IfOk result (IsMissing graph.now asked.now) }
-        ensures rest { IfOk result (λ left. IsTrue (is_empty_set left)
-            ⊎ IsAtRest graph.now asked.now left (position + 1) self.new) }
+        ensures missing { OnOk result (IsMissing graph.now asked.now self.new.missing) }
+        ensures rest { OnOk result (IsTrue (is_empty_set self.new.missing)
+            ⊎ IsAtRest graph.now asked.now self.new.missing (position + 1) self.new) }
     {
         if self.flood.numbers[position].is_some() {
-            return Ok(missing);
+            return Ok(());
         }
         self.read_row(graph, position)?;
-        let missing = self.run(graph, asked, missing)?;
-        Ok(missing)
+        self.run(graph, asked)?;
+        Ok(())
     }
 
-    // The rights of the set that no vertex of x's island holds.
-    fn search(&mut self, graph: &Graph, asked: &Asked) -> Result<Rights, AllocError>
-        requires named { IsNamed asked.now.rights }
-        requires spread { IsSpread graph.now asked.now asked.now.rights
+    // Finds the rights that no vertex of x's island holds.
+    fn search(&mut self, graph: &Graph, asked: &Asked) -> Result<(), AllocError>
+        requires missing { IsMissing graph.now asked.now self.old.missing }
+        requires spread { IsSpread graph.now asked.now self.old.missing
             self.old.flood.waiting.items self.old }
         requires source { has_vertex (graph_of graph.now) asked.now.x ≡ true }
-        ensures missing { IfOk result (IsMissing graph.now asked.now) }
-        ensures lacking { IfOk result (λ left. (right : Right) → IsTrue (member left right)
+        ensures missing { OnOk result (IsMissing graph.now asked.now self.new.missing) }
+        ensures lacking { OnOk result ((right : Right) → IsTrue (member self.new.missing right)
             → HeldInIsland (graph_of graph.now) right asked.now.x asked.now.y → ⊥) }
     {
         let count = graph.len();
-        let mut missing = self.run(graph, asked, asked.rights)?;
+        self.run(graph, asked)?;
         for position in 0..count {
-            if missing.is_empty() {
-                return Ok(missing);
+            if self.missing.is_empty() {
+                return Ok(());
             }
-            missing = self.visit(graph, asked, position, missing)?;
+            self.visit(graph, asked, position)?;
         }
-        Ok(missing)
+        Ok(())
     }
 }
 
@@ -209,9 +204,9 @@ pub fn island_holds(alloc: Global, graph: &Graph, asked: &Asked) -> Result<bool,
     let count = graph.len();
     match graph.position(asked.x) {
         Some(start) => {
-            let mut spread = Spread::from(alloc, count, start)?;
-            let missing = spread.search(graph, asked)?;
-            Ok(missing.is_empty())
+            let mut spread = Spread::from(alloc, count, start, asked.rights)?;
+            spread.search(graph, asked)?;
+            Ok(spread.missing.is_empty())
         }
         None => Ok(false),
     }

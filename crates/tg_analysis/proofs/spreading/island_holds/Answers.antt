@@ -8,16 +8,16 @@ use Rattle.tg_analysis.proofs.Spreads.{spread-begins, all_held, then_none_missin
 use Rattle.tg_analysis.proofs.spreading.island_holds.Goals as goal
 
 pub search-requires-clause-spread : goal.search-requires-clause-spread
-search-requires-clause-spread c = spread-begins c.args.graph.now c.len-count.ensures.graph c.args.asked.now c.args.asked.now.rights c.len-count.result c.in-Some.start c.in_ok-spread-in-Some.spread (c.len-count.ensures.value ∙ sym (length-keys_of c.args.graph.now)) (at-position (keys_of c.args.graph.now) c.args.asked.now.x c.in-Some.start (sym c.position.ensures ∙ c.in-Some.is)) c.in_ok-spread-in-Some.ensures
+search-requires-clause-spread c = spread-begins c.args.graph.now c.len-count.ensures.graph c.args.asked.now c.in_ok-spread-in-Some.spread.missing c.args.asked.now.rights c.len-count.result c.in-Some.start c.in_ok-spread-in-Some.spread (c.len-count.ensures.value ∙ sym (length-keys_of c.args.graph.now)) (at-position (keys_of c.args.graph.now) c.args.asked.now.x c.in-Some.start (sym c.position.ensures ∙ c.in-Some.is)) c.in_ok-spread-in-Some.ensures
 
-pub returns-in_ok-missing-in-Some : goal.returns-in_ok-missing-in-Some
-returns-in_ok-missing-in-Some c =
+pub returns-in_ok-search-in-Some : goal.returns-in_ok-search-in-Some
+returns-in_ok-search-in-Some c =
     let few : length (keys_of c.args.graph.now) < 2 ^ 64 = omega (arith, c.len-count.type_inv, c.len-count.ensures.value, length-keys_of c.args.graph.now) in
     let shared = c.together.ensures (graph_of c.args.graph.now) c.args.asked.now.rights c.args.asked.now.x c.args.asked.now.y c.len-count.ensures.well_formed few c.requires.source c.requires.target in
-    let left = c.in_ok-missing-in-Some.ensures in
+    let left = c.in_ok-search-in-Some.ensures in
     let said = c.is_empty-in-Some.ensures tt in (
-      λ none. shared.1 (all_held c.args.graph.now c.len-count.ensures.graph c.args.asked.now c.in_ok-missing-in-Some.missing (sym said ∙ none) left.missing),
-      λ all. said ∙ then_none_missing c.args.graph.now c.len-count.ensures.graph c.args.asked.now c.in_ok-missing-in-Some.missing left.missing left.lacking (shared.0 all),
+      λ none. shared.1 (all_held c.args.graph.now c.len-count.ensures.graph c.args.asked.now c.search.new.self.missing (sym said ∙ none) left.missing),
+      λ all. said ∙ then_none_missing c.args.graph.now c.len-count.ensures.graph c.args.asked.now c.search.new.self.missing left.missing left.lacking (shared.0 all),
     )
 
 pub returns-in-None : goal.returns-in-None

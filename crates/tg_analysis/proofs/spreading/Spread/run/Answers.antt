@@ -1,28 +1,32 @@
-use Rattle.std.proofs.Common.{◌+◌, refl, ◌∙◌}
+use Rattle.std.proofs.Common.{◌+◌, refl, sym, subst, ◌∙◌}
 use Rattle.tg_analysis.specs.declared.spreading.Spread.{Spread}
+use Rattle.tg_analysis.specs.Spreading.{IsMissing, IsSpread}
 use Rattle.tg_analysis.proofs.Linked.{row_there}
-use Rattle.tg_analysis.proofs.Spreads.{spread-takes, still_missing, holds_no_other, spread-narrows, spread-follows, follows_back, follows_grows}
+use Rattle.tg_analysis.proofs.Spreads.{spread-takes, still_missing, holds_no_other, spread-narrows, spread-follows, follows_back, follows_grows, follows_missing}
 use Rattle.tg_analysis.proofs.spreading.Spread.run.Goals as goal
 
 pub returns-then-is_empty-clause-missing : goal.returns-then-is_empty-clause-missing
 returns-then-is_empty-clause-missing c =
-    let taken : Spread = record { flood = record c.loop-position.self.flood { waiting = c.pop.new.self }; back = c.loop-position.self.back; followed = c.loop-position.self.followed + 1 } in
-    let is = spread-takes c.args.graph.now c.requires.graph c.args.asked.now c.loop-position.missing c.in-Some.position c.loop-position.self taken c.loop-position.invariant.is_spread (record { numbers = refl; current = refl; waiting = c.in-Some.ensures.items }) refl refl in
-    still_missing c.args.graph.now c.requires.graph c.args.asked.now c.in-Some.position c.loop-position.missing c.rights_at.result c.difference-missing.result c.rights_at.ensures.rights c.difference-missing.ensures.set taken.flood.waiting.items taken is c.loop-position.invariant.is_missing
+    let taken : Spread = record { flood = record c.loop-position.self.flood { waiting = c.pop.new.self }; back = c.loop-position.self.back; followed = c.loop-position.self.followed + 1; missing = c.difference-self.result } in
+    let is = spread-takes c.args.graph.now c.requires.graph c.args.asked.now c.loop-position.self.missing c.in-Some.position c.loop-position.self taken c.loop-position.invariant.is_spread (record { numbers = refl; current = refl; waiting = c.in-Some.ensures.items }) refl refl in
+    still_missing c.args.graph.now c.requires.graph c.args.asked.now c.in-Some.position c.loop-position.self.missing c.rights_at.result c.difference-self.result c.rights_at.ensures.rights c.difference-self.ensures.set taken.flood.waiting.items taken is c.loop-position.invariant.is_missing
 
 pub follow_on-requires-clause-within : goal.follow_on-requires-clause-within
 follow_on-requires-clause-within c = λ a near. let edge = c.loop-position.invariant.is_spread.back_from a c.in-Some.position near in row_there c.args.graph.now c.requires.graph a edge.0 c.in-Some.position edge.1
 
 pub loop-position-preserved : goal.loop-position-preserved
 loop-position-preserved c =
-    let taken : Spread = record { flood = record c.loop-position.self.flood { waiting = c.pop.new.self }; back = c.loop-position.self.back; followed = c.loop-position.self.followed + 1 } in
-    let is = spread-takes c.args.graph.now c.requires.graph c.args.asked.now c.loop-position.missing c.in-Some.position c.loop-position.self taken c.loop-position.invariant.is_spread (record { numbers = refl; current = refl; waiting = c.in-Some.ensures.items }) refl refl in
-    let narrow = spread-narrows c.args.graph.now c.requires.graph c.args.asked.now c.in-Some.position c.loop-position.missing c.rights_at.result c.difference-missing.result c.rights_at.ensures.rights c.difference-missing.ensures.set _ taken is in
-    let idle = holds_no_other c.args.graph.now c.requires.graph c.args.asked.now c.in-Some.position c.loop-position.missing c.rights_at.result c.difference-missing.result c.rights_at.ensures.rights c.difference-missing.ensures.set in
+    let taken : Spread = record { flood = record c.loop-position.self.flood { waiting = c.pop.new.self }; back = c.loop-position.self.back; followed = c.loop-position.self.followed + 1; missing = c.difference-self.result } in
+    let is = spread-takes c.args.graph.now c.requires.graph c.args.asked.now c.loop-position.self.missing c.in-Some.position c.loop-position.self taken c.loop-position.invariant.is_spread (record { numbers = refl; current = refl; waiting = c.in-Some.ensures.items }) refl refl in
+    let narrow = spread-narrows c.args.graph.now c.requires.graph c.args.asked.now c.in-Some.position c.loop-position.self.missing c.rights_at.result c.difference-self.result c.rights_at.ensures.rights c.difference-self.ensures.set _ taken is in
+    let idle = holds_no_other c.args.graph.now c.requires.graph c.args.asked.now c.in-Some.position c.loop-position.self.missing c.rights_at.result c.difference-self.result c.rights_at.ensures.rights c.difference-self.ensures.set in
     let on = c.in_ok-follow_on.ensures in
+    let still = still_missing c.args.graph.now c.requires.graph c.args.asked.now c.in-Some.position c.loop-position.self.missing c.rights_at.result c.difference-self.result c.rights_at.ensures.rights c.difference-self.ensures.set taken.flood.waiting.items taken is c.loop-position.invariant.is_missing in
+    let next = spread-follows c.args.graph.now c.requires.graph c.args.asked.now c.difference-self.result c.in-Some.position taken c.follow_on.new.self narrow idle on in
+    let same = follows_missing c.args.graph.now c.requires.graph c.args.asked.now c.in-Some.position taken c.follow_on.new.self on in
     record {
-      is_missing = still_missing c.args.graph.now c.requires.graph c.args.asked.now c.in-Some.position c.loop-position.missing c.rights_at.result c.difference-missing.result c.rights_at.ensures.rights c.difference-missing.ensures.set taken.flood.waiting.items taken is c.loop-position.invariant.is_missing;
-      is_spread = spread-follows c.args.graph.now c.requires.graph c.args.asked.now c.difference-missing.result c.in-Some.position taken c.follow_on.new.self narrow idle on;
+      is_missing = subst (λ left. IsMissing c.args.graph.now c.args.asked.now left) (sym same) still;
+      is_spread = subst (λ left. IsSpread c.args.graph.now c.args.asked.now left c.follow_on.new.self.flood.waiting.items c.follow_on.new.self) (sym same) next;
       back = follows_back c.args.graph.now c.requires.graph c.args.asked.now c.in-Some.position taken c.follow_on.new.self on ∙ c.loop-position.invariant.back;
       grows = λ a met. follows_grows c.args.graph.now c.requires.graph c.args.asked.now c.in-Some.position taken c.follow_on.new.self on a (c.loop-position.invariant.grows a met);
     }

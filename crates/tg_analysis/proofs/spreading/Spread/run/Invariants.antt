@@ -6,8 +6,8 @@ use Rattle.tg_analysis.proofs.spreading.Spread.run.Given as goal
 abbrev pub invariant-loop-position : goal.invariant-loop-position
 invariant-loop-position l =
     record {
-      is_missing : IsMissing l.graph l.asked l.missing;
-      is_spread : IsSpread l.graph l.asked l.missing l.self.flood.waiting.items l.self;
+      is_missing : IsMissing l.graph l.asked l.self.missing;
+      is_spread : IsSpread l.graph l.asked l.self.missing l.self.flood.waiting.items l.self;
       back : l.self.back ≡ l.initial.self.back;
       grows : (a : ℕ) → IsMet l.initial.self a → IsMet l.self a;
     }

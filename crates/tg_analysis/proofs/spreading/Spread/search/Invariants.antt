@@ -6,6 +6,6 @@ use Rattle.tg_analysis.proofs.spreading.Spread.search.Given as goal
 abbrev pub invariant-loop-position : goal.invariant-loop-position
 invariant-loop-position l =
     record {
-      is_missing : IsMissing l.graph l.asked l.missing;
-      rest : IsTrue (is_empty_set l.missing) ⊎ IsAtRest l.graph l.asked l.missing l.position l.self;
+      is_missing : IsMissing l.graph l.asked l.self.missing;
+      rest : IsTrue (is_empty_set l.self.missing) ⊎ IsAtRest l.graph l.asked l.self.missing l.position l.self;
     }
