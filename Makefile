@@ -48,6 +48,7 @@ examples: build
 	@$(OFFICER) islands $(GRAPH) | diff - $(FILES).islands.out
 	@$(OFFICER) share $(GRAPH) r client payroll | diff - $(FILES).share.out
 	@$(OFFICER) derive $(GRAPH) r client payroll | diff - $(FILES).derive.out
+	@$(OFFICER) derive $(GRAPH) rw client payroll | diff - $(FILES).both.out
 	@$(OFFICER) derive $(GRAPH) t service clerk | diff - $(FILES).helpers.out
 	@$(OFFICER) table $(GRAPH) r | diff - $(FILES).table.out
 	@$(OFFICER) run $(GRAPH) $(FILES).script | diff - $(FILES).script.out

@@ -141,27 +141,27 @@ def islands_case(program, make):
 
 def share_case(program, make):
     """`share`."""
-    question = [make.spoil.word(word) for word in make.question()]
+    question = [make.spoil.word(word) for word in make.question(make.rights())]
     require_report(program, b"share", [make.spoil.text(make.graph_text(), 0.1)], question)
 
 
 def derive_case(program, make):
     """`derive`, and `apply` of what it printed."""
-    question = [make.spoil.word(word, 0.05) for word in make.question()]
+    question = [make.spoil.word(word, 0.05) for word in make.question(make.rights())]
     graph = make.spoil.text(make.graph_text(), 0.1)
     rules = require_report(program, b"derive", [graph], question)
     if rules is None or rules == b"# no\n":
         return
     text = require_report(program, b"apply", [graph, rules])
     require_same("apply of derive", text is not None, True)
-    right, x, y = (word.decode() for word in question)
+    rights, x, y = (word.decode() for word in question)
     after = read_graph(text.partition(b"graph\n")[2])
-    require_same("the right after derive", right in after.rights(x, y), True)
+    require_same("the rights after derive", set(rights) - {"-"} <= after.rights(x, y), True)
 
 
 def table_case(program, make):
     """`table`, and `share` of one of its cells."""
-    right, x, y = make.question()
+    right, x, y = make.question(make.right())
     right, workers = make.spoil.word(right, 0.05), make.workers()
     if workers and not is_call([b"table", b"file", b"r", *workers]):
         told = program.report(b"table", b"", further=[right, *workers])

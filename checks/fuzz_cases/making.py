@@ -95,9 +95,9 @@ class Maker:
         graph.reply(rule)
         return rule
 
-    def question(self):
-        """The words of a question about sharing."""
-        return [self.right().encode(), self.name().encode(), self.name().encode()]
+    def question(self, rights):
+        """The words of a question about sharing these rights."""
+        return [rights.encode(), self.name().encode(), self.name().encode()]
 
     def workers(self):
         """The words that say how many workers make a table, or none."""
@@ -228,8 +228,9 @@ class Maker:
         self.chance.shuffle(lines)
         links = self.chance.choice(["t", "g", "tg", "r"])
         lines += (["edge", f"v{i}", f"v{i + 1}", links] for i in range(count - 2))
-        lines.append(["edge", f"v{count - 2}", f"v{count - 1}", "w"])
-        ends = [b"w", b"v0", f"v{count - 1}".encode()]
+        lines.append(["edge", f"v{count - 2}", f"v{count - 1}", "rwe"])
+        rights = self.chance.choice([b"w", b"ew", b"wre", b"wa", b"-"])
+        ends = [rights, b"v0", f"v{count - 1}".encode()]
         further = {"check": [], "islands": [], "share": ends, "derive": ends, "table": [b"w"]}
         command = self.chance.choice(sorted(further))
         return command.encode(), [version + self.text(lines)], further[command]

@@ -20,7 +20,8 @@ table G r --workers ''|table G r --workers ' 4'|'check ' G|''|'' ''|'' check G|c
 # What stands behind the graph of a question, good or bad.
 QUESTIONS = """
 q a c|'' a c|rw A z|r '' c|r a z|r z A|r z y|r a \u00e9|R a c|- a c|r abcdefghijklmnop c
-r abcdefghijklmnopq c|r 9a c|a a c|d a c|ad a c|A a c
+r abcdefghijklmnopq c|r 9a c|a a c|d a c|ad a c|A a c|rw a c|wr a c|tgrwead a c|rwr a c|-r a c
+-- a c|- a z|tgrweadt a c
 """
 # What stands behind the graph of a table, good or bad.
 TABLES = """

@@ -126,9 +126,10 @@ class Graph:
                 left.difference_update(found[-1])
         return found
 
-    def can_share(self, right, x, y):
-        """Whether some vertex of the island of x has the right over y."""
-        return any(right in self.rights(s, y) for s in reached(self.neighbours(), x))
+    def can_share(self, rights, x, y):
+        """Whether each of the rights over y is one that some vertex of the island of x has."""
+        island = reached(self.neighbours(), x)
+        return all(any(right in self.rights(s, y) for s in island) for right in rights)
 
     def table(self, right):
         """Each island, and those over whom its vertices can come to have the right."""
@@ -162,14 +163,20 @@ class Graph:
         leave, fetch = f"grant {q} {helper} {goal}", f"take {p} {helper} {goal}"
         return [f"create {p} {helper} tg", hand_over, leave, fetch]
 
-    def derivation(self, right, x, y):
-        """The lines of the rules that give x the right over y, or None where no rules do."""
-        chain = self.chain(right, x, y)
-        if chain is None:
+    def derivation(self, rights, x, y):
+        """The lines of the rules that give x the rights over y, or None where no rules do.
+
+        There is a part for each right, in the order of the letters.
+        """
+        chains = [(right, self.chain(right, x, y)) for right in LETTERS if right in rights]
+        if any(chain is None for _, chain in chains):
             return None
         helpers = (name for name in map("_{}".format, count()) if name not in self.names)
-        moves = (self.move(q, p, helpers, f"{y} {right}") for q, p in zip(chain, chain[1:]))
-        return [rule for move in moves for rule in move]
+        rules = []
+        for right, chain in chains:
+            for q, p in zip(chain, chain[1:]):
+                rules += self.move(q, p, helpers, f"{y} {right}")
+        return rules
 
 
 def breadth_first(linked, start):

@@ -2,7 +2,8 @@
 import re
 
 from model.sessions import Hall
-from model.texts import TextFault, is_name, is_right, parts_of, read_graph, read_rules, read_script
+from model.texts import TextFault, is_name, is_right, is_rights
+from model.texts import parts_of, read_graph, read_rules, read_script
 
 MOST_WORKERS = 16
 WORKERS = re.compile(rb"[0-9]{1,4}")
@@ -52,23 +53,23 @@ def read(reader, title, text):
         raise Refused(f"{title} line {fault.line} {fault.kind}") from fault
 
 
-def right_in(word):
-    """The right that a word is."""
-    if not is_right(word):
+def right_in(word, test=is_right):
+    """The right that a word is; by another test, the set of rights."""
+    if not test(word):
         raise Refused("bad-right")
     return word.decode()
 
 
-def question_in(text, right, x, y):
-    """The graph, right and two vertices of a question."""
+def question_in(text, rights, x, y):
+    """The graph, rights and two vertices of a question."""
     graph = read(read_graph, "graph", text)
-    right = right_in(right)
+    rights = set(right_in(rights, is_rights)) - {"-"}
     if not is_name(x) or not is_name(y):
         raise Refused("bad-name")
     for name in (x.decode(), y.decode()):
         if name not in graph.names:
             raise Refused(f"unknown {name}")
-    return graph, right, x.decode(), y.decode()
+    return graph, rights, x.decode(), y.decode()
 
 
 def check(text):

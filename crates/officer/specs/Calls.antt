@@ -30,8 +30,8 @@ command_words command.Case = Case
 command_words command.Check = Check
 command_words command.Apply = Apply
 command_words command.Islands = Islands
-command_words (command.Share right x y) = Share right.now x.now y.now
-command_words (command.Derive right x y) = Derive right.now x.now y.now
+command_words (command.Share rights x y) = Share rights.now x.now y.now
+command_words (command.Derive rights x y) = Derive rights.now x.now y.now
 command_words (command.Table right workers) = Table right.now workers
 command_words command.Run = Run
 

@@ -44,7 +44,7 @@ Makes P (Err (halt.Refused report)) = P (report_text report)
 Makes P (Err halt.Memory) = Unit {0}
 
 abbrev pub question_of : Question → Asked
-question_of q = record { graph = graph_of q.graph; right = q.right; x = q.x; y = q.y }
+question_of q = record { graph = graph_of q.graph; rights = q.rights; x = q.x; y = q.y }
 
 -- what a question can count on: its names are vertices, and the graph has no more vertices than a text may name
 pub record IsAskable (q : Asked) : Type 0 where

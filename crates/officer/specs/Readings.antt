@@ -1,6 +1,8 @@
 -- What the texts and the words of a command give, or the report of the first fault.
 use Rattle.std.specs.Prelude.{ℕ, List, [], ◌∷◌, codes, decimal, Result, Ok, Err, is_ok, ok_or, if◌then◌else◌, nat_eq, nat_lt, ◌||◌}
 use Rattle.tg_graph.specs.declared.right_sets.Right.{Right}
+use Rattle.tg_graph.specs.declared.right_sets.Rights.{Rights}
+use Rattle.tg_graph.specs.Letters.{set_of_letters}
 use Rattle.tg_graph.specs.Names.{name_of}
 use Rattle.tg_graph.specs.Graphs.{Name, ProtectionGraph, has_vertex}
 use Rattle.tg_text.specs.declared.faults.TextKind.{TextKind}
@@ -59,6 +61,10 @@ script_in bytes = from_text (codes "script") (script_text bytes)
 abbrev pub right_in : List ℕ → Result Right ReportText
 right_in word = ok_or (right_of word) (refusal (codes "bad-right" ∷ []))
 
+-- the set of rights that a word writes
+abbrev pub rights_in : List ℕ → Result Rights ReportText
+rights_in word = ok_or (set_of_letters word) (refusal (codes "bad-right" ∷ []))
+
 -- a name writes itself
 abbrev pub name_in : List ℕ → Result Name ReportText
 name_in word = if is_ok (name_of word) then Ok word else Err (refusal (codes "bad-name" ∷ []))
@@ -67,23 +73,23 @@ name_in word = if is_ok (name_of word) then Ok word else Err (refusal (codes "ba
 abbrev pub vertex_in : ProtectionGraph → Name → Result Name ReportText
 vertex_in g v = if has_vertex g v then Ok v else Err (refusal (codes "unknown" ∷ v ∷ []))
 
--- whether x can come to have the right over y
+-- whether x can come to have the rights over y
 pub record Question : Type 0 where
   pub graph : ProtectionGraph
-  pub right : Right
+  pub rights : Rights
   pub x : Name
   pub y : Name
 
 -- what is asked of the graph of a text, the words in their order
 abbrev pub question_in : List ℕ → List ℕ → List ℕ → List ℕ → Result Question ReportText
-question_in first right x y = do
+question_in first rights x y = do
   g ← graph_in first
-  r ← right_in right
+  s ← rights_in rights
   a ← name_in x
   b ← name_in y
   u ← vertex_in g a
   v ← vertex_in g b
-  Ok (record { graph = g; right = r; x = u; y = v })
+  Ok (record { graph = g; rights = s; x = u; y = v })
 
 -- a number of workers that there may be
 abbrev pub workers_in : ℕ → Result ℕ ReportText

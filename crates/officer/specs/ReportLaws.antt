@@ -2,7 +2,9 @@
 use Rattle.std.specs.Prelude.{◌≡◌, ◌<◌, ◌≤◌, ◌⊎◌, ◌↔◌, IsTrue, ℕ, List, [], ◌∷◌, length, map, filter, take, slice_get, Some, MatchOption, Result, Ok, Err}
 use Rattle.std.specs.List.{flat_map, list_any, AllByRecursion}
 use Rattle.tg_graph.specs.declared.rules.Refusal.{Refusal}
+use Rattle.tg_graph.specs.declared.right_sets.Right.{Right}
 use Rattle.tg_graph.specs.declared.rules.Rule.{Rule}
+use Rattle.tg_graph.specs.Sets.{member}
 use Rattle.tg_graph.specs.Graphs.{Name, same_name, ProtectionGraph, has_vertex, WellFormed}
 use Rattle.tg_graph.specs.Limits.{most_vertices}
 use Rattle.tg_graph.specs.Rules.{refusal_of}
@@ -11,7 +13,7 @@ use Rattle.tg_text.specs.declared.rule_text.RuleLine.{RuleLine}
 use Rattle.tg_text.specs.RuleText.{rules_text}
 use Rattle.tg_text.specs.Canonical.{canonical_text, line_of}
 use Rattle.tg_analysis.specs.Sharing.{InOneIsland}
-use Rattle.tg_analysis.specs.Derivations.{IsDerivation}
+use Rattle.tg_analysis.specs.SetDerivations.{IsDerivationOfAll}
 use Rattle.officer.specs.Calls.{CommandWords, Case, Check, Apply, Islands, Share, Derive, Table, Run}
 use Rattle.officer.specs.Readings.{Question, ReportText, question_in}
 use Rattle.officer.specs.Reports.{Played, played, check_report, derivation_report, AreIslandLines, IsReport}
@@ -29,17 +31,21 @@ pub record StopsAtRefusal (g : ProtectionGraph) (rules : List Rule) (p : Played)
 abbrev pub RulesStopAtRefusal : Type 0
 RulesStopAtRefusal = (g : ProtectionGraph) (lines : List RuleLine) → StopsAtRefusal g (rules_of lines) (played g lines)
 
--- The report is a text of these rules. On the same graph they are carried out whole, and x has the right then.
-pub record GivesTheRight (q : Question) (rules : List Rule) : Type 0 where
+-- The report is a text of these rules. On the same graph they are carried out whole, and x has each of the rights then.
+pub record GivesTheRights (q : Question) (rules : List Rule) : Type 0 where
   pub lines : List RuleLine
   pub read : rules_text (derivation_report rules).bytes ≡ Ok lines
   pub same : rules_of lines ≡ rules
   pub status : (played q.graph lines).status ≡ 0
-  pub gives : IsTrue ((played q.graph lines).end.holds q.x q.right q.y)
+  pub gives : (right : Right) → IsTrue (member q.rights right) → IsTrue ((played q.graph lines).end.holds q.x right q.y)
 
 -- a derivation that is printed can be applied, on a graph that a text may hold
-abbrev pub DerivationsGiveTheRight : Type 0
-DerivationsGiveTheRight = (q : Question) (rules : List Rule) → length q.graph.vertices ≤ most_vertices → IsDerivation q.graph q.right q.x q.y rules → GivesTheRight q rules
+abbrev pub DerivationsGiveTheRights : Type 0
+DerivationsGiveTheRights = (q : Question) (rules : List Rule) → length q.graph.vertices ≤ most_vertices → IsDerivationOfAll q.graph q.rights q.x q.y rules → GivesTheRights q rules
+
+-- and so it can be wherever the question was read
+abbrev pub ReadDerivationsGiveTheRights : Type 0
+ReadDerivationsGiveTheRights = (first rights x y : List ℕ) (q : Question) (rules : List Rule) → question_in first rights x y ≡ Ok q → IsDerivationOfAll q.graph q.rights q.x q.y rules → GivesTheRights q rules
 
 -- the canonical text of a graph that a text may hold is checked as it stands
 abbrev pub CanonicalTextsStay : Type 0
@@ -47,17 +53,17 @@ CanonicalTextsStay = (g : ProtectionGraph) → WellFormed g → length g.vertice
 
 -- rules were found for a question that was asked, and the report has them
 abbrev pub FindsRules : Result Question ReportText → ReportText → Type 0
-FindsRules (Ok q) report = (rules : List Rule) × IsDerivation q.graph q.right q.x q.y rules × (report ≡ derivation_report rules)
+FindsRules (Ok q) report = (rules : List Rule) × IsDerivationOfAll q.graph q.rights q.x q.y rules × (report ≡ derivation_report rules)
 FindsRules (Err fault) report = ⊥
 
 -- the report is one of rules that were found
 abbrev pub GivesRules : CommandWords → List ℕ → ReportText → Type 0
-GivesRules (Derive right x y) first report = FindsRules (question_in first right x y) report
+GivesRules (Derive rights x y) first report = FindsRules (question_in first rights x y) report
 GivesRules Case first report = ⊥
 GivesRules Check first report = ⊥
 GivesRules Apply first report = ⊥
 GivesRules Islands first report = ⊥
-GivesRules (Share right x y) first report = ⊥
+GivesRules (Share rights x y) first report = ⊥
 GivesRules (Table right workers) first report = ⊥
 GivesRules Run first report = ⊥
 

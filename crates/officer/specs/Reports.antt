@@ -7,7 +7,7 @@ use Rattle.tg_graph.specs.declared.session.Reply.{Reply}
 use Rattle.tg_graph.specs.declared.session.Reply.TheVariants.{Done, Refused}
 use Rattle.tg_graph.specs.declared.rules.Rule.{Rule}
 use Rattle.tg_graph.specs.Graphs.{Name, same_name, ProtectionGraph, has_vertex}
-use Rattle.tg_graph.specs.RuleLists.{CanShare}
+use Rattle.tg_graph.specs.RuleLists.{CanShare, CanShareAll}
 use Rattle.tg_graph.specs.Rules.{refusal_of, after}
 use Rattle.tg_text.specs.Limits.{most_line_bytes}
 use Rattle.tg_text.specs.declared.rule_text.RuleLine.{RuleLine}
@@ -17,7 +17,7 @@ use Rattle.tg_text.specs.Spelling.{reply_words}
 use Rattle.tg_text.specs.RoundTrips.{lines_of_rules}
 use Rattle.tg_text.specs.Canonical.{line_of, canonical_text, in_name_order}
 use Rattle.tg_analysis.specs.Sharing.{InOneIsland}
-use Rattle.tg_analysis.specs.Derivations.{IsDerivation}
+use Rattle.tg_analysis.specs.SetDerivations.{IsDerivationOfAll}
 use Rattle.officer.specs.Calls.{CommandWords, Case, Check, Apply, Islands, Share, Derive, Table, Run}
 use Rattle.officer.specs.Readings.{ReportText, graph_in, rules_in, Question, question_in, TableQuestion, table_in}
 use Rattle.officer.specs.Runs.{playing_in, IsPlayed}
@@ -85,21 +85,21 @@ rules_part input = text_of (after_first parts_texts (lines_of input))
 abbrev pub says : List (List ℕ) → ReportText
 says words = record { bytes = line_of words; status = 0 }
 
--- the answer to a question: yes exactly where some list of rules gives the right
+-- the answer to a question: yes exactly where one list of rules gives each of the rights
 abbrev pub IsAnswer : Question → ReportText → Type 0
 IsAnswer q report =
-    (CanShare q.graph q.right q.x q.y × (report ≡ says (codes "yes" ∷ [])))
-    ⊎ ((CanShare q.graph q.right q.x q.y → ⊥) × (report ≡ says (codes "no" ∷ [])))
+    (CanShareAll q.graph q.rights q.x q.y × (report ≡ says (codes "yes" ∷ [])))
+    ⊎ ((CanShareAll q.graph q.rights q.x q.y → ⊥) × (report ≡ says (codes "no" ∷ [])))
 
 -- a list of rules as a text of rules
 abbrev pub derivation_report : List Rule → ReportText
 derivation_report rules = record { bytes = line_of (codes "#" ∷ codes "yes" ∷ decimal (length rules) ∷ []) ++ lines_of_rules rules; status = 0 }
 
--- rules that give the right; no exactly where no list of rules does
+-- rules that give each of the rights; no exactly where no list of rules does
 abbrev pub IsDerived : Question → ReportText → Type 0
 IsDerived q report =
-    ((rules : List Rule) × IsDerivation q.graph q.right q.x q.y rules × (report ≡ derivation_report rules))
-    ⊎ ((CanShare q.graph q.right q.x q.y → ⊥) × (report ≡ says (codes "#" ∷ codes "no" ∷ [])))
+    ((rules : List Rule) × IsDerivationOfAll q.graph q.rights q.x q.y rules × (report ≡ derivation_report rules))
+    ⊎ ((CanShareAll q.graph q.rights q.x q.y → ⊥) × (report ≡ says (codes "#" ∷ codes "no" ∷ [])))
 
 -- the line of the island whose vertices follow, if v is the least of them
 abbrev pub island_line : Name → List Name → List ℕ
@@ -150,7 +150,7 @@ IsReport Case first second = IsFor Is (apply_report (graph_part first) (rules_pa
 IsReport Check first second = IsFor Is (check_report first)
 IsReport Apply first second = IsFor Is (apply_report first second)
 IsReport Islands first second = IsFor AreIslandLines (graph_in first)
-IsReport (Share right x y) first second = IsFor IsAnswer (question_in first right x y)
-IsReport (Derive right x y) first second = IsFor IsDerived (question_in first right x y)
+IsReport (Share rights x y) first second = IsFor IsAnswer (question_in first rights x y)
+IsReport (Derive rights x y) first second = IsFor IsDerived (question_in first rights x y)
 IsReport (Table right workers) first second = IsFor AreTableLines (table_in first right workers)
 IsReport Run first second = IsFor (λ playing. IsPlayed playing.graph playing.script) (playing_in first second)

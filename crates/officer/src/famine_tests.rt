@@ -7,9 +7,9 @@ use crate::words::{Call, Command};
 
 #[test]
 fn words_read(rt: HostRuntime) {
-    let (right, x, y) = ("r", "a", "c");
+    let (rights, x, y) = ("r", "a", "c");
     calls_for(&rt, &[], Call::Input);
-    let share = Call::File(Command::Share { right, x, y }, "g");
+    let share = Call::File(Command::Share { rights, x, y }, "g");
     calls_for(&rt, &["share", "g", "r", "a", "c"], share);
     let script = Call::Files(Command::Run, "g", "s");
     calls_for(&rt, &["run", "g", "s"], script);

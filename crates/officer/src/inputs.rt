@@ -5,13 +5,13 @@ ghost use Rattle.tg_graph.specs.Graphs.{has_vertex};
 ghost use Rattle.tg_graph.specs.Limits.{most_vertices};
 ghost use Rattle.tg_text.specs.RuleText.{AreNamedLines};
 ghost use Rattle.tg_text.specs.ScriptText.{script_of};
-ghost use Rattle.officer.specs.Readings.{kind_word, refusal, text_refusal, graph_in, rules_in, script_in, right_in, name_in, vertex_in, question_in, workers_in, table_in};
+ghost use Rattle.officer.specs.Readings.{kind_word, refusal, text_refusal, graph_in, rules_in, script_in, right_in, rights_in, name_in, vertex_in, question_in, workers_in, table_in};
 ghost use Rattle.officer.specs.Outcomes.{Brings, report_text, question_of, table_question_of, IsAskable, IsTableWork, IsPlayableScript};
 
 use crate::outcome::{Halt, Report};
 use std::alloc::{AllocError, Global};
 use tg_analysis::MOST_WORKERS;
-use tg_graph::{Graph, Name, NameFault, Refusal, Reply, Right};
+use tg_graph::{Graph, Name, NameFault, Refusal, Reply, Right, Rights};
 use tg_text::{
     RuleLine, Script, TextFault, TextKind, append_reply, read_graph, read_rules, read_script,
 };
@@ -95,11 +95,11 @@ pub(crate) fn script_in(alloc: Global, text: &[u8]) -> Result<Script, Halt>
     }
 }
 
-/// A question to a graph: whether x can come to have the right over y.
+/// A question to a graph: whether x can come to have the rights over y.
 #[derive(Drop)]
 pub(crate) struct Question {
     pub graph: Graph,
-    pub right: Right,
+    pub rights: Rights,
     pub x: Name,
     pub y: Name,
 }
@@ -125,6 +125,15 @@ fn right_in(alloc: Global, word: &str) -> Result<Right, Halt>
     };
     match right {
         Some(right) => Ok(right),
+        None => Err(Halt::Refused(word_refusal(alloc, "bad-right")?)),
+    }
+}
+
+fn rights_in(alloc: Global, word: &str) -> Result<Rights, Halt>
+    ensures { Brings (λ rights. rights) result (rights_in word.now) }
+{
+    match Rights::from_letters(word.as_bytes()) {
+        Some(rights) => Ok(rights),
         None => Err(Halt::Refused(word_refusal(alloc, "bad-right")?)),
     }
 }
@@ -164,20 +173,25 @@ fn vertex_in(alloc: Global, graph: &Graph, name: Name) -> Result<Name, Halt>
 pub(crate) fn question_in(
     alloc: Global,
     text: &[u8],
-    right: &str,
+    rights: &str,
     x: &str,
     y: &str,
 ) -> Result<Question, Halt>
-    ensures made { Brings question_of result (question_in text.now right.now x.now y.now) }
+    ensures made { Brings question_of result (question_in text.now rights.now x.now y.now) }
     ensures askable { IfOk result (λ question. IsAskable (question_of question)) }
 {
     let graph = graph_in(alloc, text)?;
-    let right = right_in(alloc, right)?;
+    let rights = rights_in(alloc, rights)?;
     let x = name_in(alloc, x)?;
     let y = name_in(alloc, y)?;
     let x = vertex_in(alloc, &graph, x)?;
     let y = vertex_in(alloc, &graph, y)?;
-    Ok(Question { graph, right, x, y })
+    Ok(Question {
+        graph,
+        rights,
+        x,
+        y,
+    })
 }
 
 fn workers_in(alloc: Global, workers: u64) -> Result<u64, Halt>

@@ -1,6 +1,6 @@
 //! Laws of the reports and of the program's runs. Each function does nothing: its contract is the
 //! law.
-ghost use Rattle.officer.specs.ReportLaws.{CanonicalTextsStay, DerivationsGiveTheRight, IslandsAreLines, RulesStopAtRefusal, ThereIsOneReport};
+ghost use Rattle.officer.specs.ReportLaws.{CanonicalTextsStay, DerivationsGiveTheRights, IslandsAreLines, ReadDerivationsGiveTheRights, RulesStopAtRefusal, ThereIsOneReport};
 ghost use Rattle.officer.specs.RunLaws.{RunsPrintReports};
 
 use tg_text::laws::equal_graphs_have_one_text;
@@ -11,9 +11,11 @@ pub fn rules_stop_at_refusal()
 {}
 
 /// The report of a derivation on a graph of at most `MOST_VERTICES` is a text of rules: carried out
-/// on the same graph, none is refused, and they give the right that was asked for.
-pub fn derivations_give_the_right()
-    ensures { DerivationsGiveTheRight }
+/// on the same graph, none is refused, and they give each of the rights that were asked for. So it
+/// is wherever the question was read from texts.
+pub fn derivations_give_the_rights()
+    ensures small { DerivationsGiveTheRights }
+    ensures read { ReadDerivationsGiveTheRights }
 {}
 
 /// What is printed of a graph of at most `MOST_VERTICES` by `check` is printed again as it stands.
@@ -23,7 +25,7 @@ pub fn canonical_texts_stay()
     equal_graphs_have_one_text();
 }
 
-/// A command has one report for its texts, but that other rules may be found that give the right.
+/// A command has one report for its texts, but that other rules may be found that give the rights.
 pub fn there_is_one_report()
     ensures { ThereIsOneReport }
 {}

@@ -77,14 +77,18 @@ fn refused_cases(rt: HostRuntime) -> Result<(), Fail> {
 
 #[test]
 fn refused_questions(rt: HostRuntime) -> Result<(), Fail> {
-    let (right, x, y) = ("r", "a", "c");
-    reports(&rt, Command::Share { right, x, y }, b"", b"yes\n")?;
-    reports(
-        &rt,
-        Command::Derive { right, x, y },
-        b"",
-        b"# yes 4\ncreate a _0 tg\ngrant a b _0 g\ngrant b _0 c r\ntake a _0 c r\n",
-    )?;
+    let (x, y) = ("a", "c");
+    for (rights, share, derive) in [
+        (
+            "r",
+            b"yes\n".as_slice(),
+            b"# yes 4\ncreate a _0 tg\ngrant a b _0 g\ngrant b _0 c r\ntake a _0 c r\n".as_slice(),
+        ),
+        ("rw", b"no\n", b"# no\n"),
+    ] {
+        reports(&rt, Command::Share { rights, x, y }, b"", share)?;
+        reports(&rt, Command::Derive { rights, x, y }, b"", derive)?;
+    }
     Ok(())
 }
 

@@ -74,8 +74,8 @@ pub fn report<R: Threads + Sync>(
         Command::Check => check(alloc, first),
         Command::Apply => apply(alloc, first, second),
         Command::Islands => islands_of(alloc, first),
-        Command::Share { right, x, y } => share(alloc, first, right, x, y),
-        Command::Derive { right, x, y } => derive(alloc, first, right, x, y),
+        Command::Share { rights, x, y } => share(alloc, first, rights, x, y),
+        Command::Derive { rights, x, y } => derive(alloc, first, rights, x, y),
         Command::Table { right, workers } => table(rt, alloc, first, right, workers),
         Command::Run => run(alloc, first, second),
     };

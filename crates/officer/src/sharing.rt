@@ -8,7 +8,7 @@ ghost use Rattle.officer.specs.Outcomes.{Makes, report_text, question_of, IsAska
 use crate::inputs::{Question, question_in};
 use crate::outcome::{Halt, Report};
 use std::alloc::{AllocError, Global};
-use tg_analysis::{AskFault, can_share, derivation};
+use tg_analysis::{AskFault, can_share_all, derivation_all};
 use tg_graph::Rule;
 use tg_text::{append_number, append_rule};
 
@@ -27,10 +27,10 @@ fn answer(alloc: Global, question: &Question) -> Result<Report, AllocError>
     requires { IsAskable (question_of question.now) }
     ensures { IfOk result (λ report. IsAnswer (question_of question.now) (report_text report)) }
 {
-    match can_share(
+    match can_share_all(
         alloc,
         &question.graph,
-        question.right,
+        question.rights,
         question.x,
         question.y,
     ) {
@@ -45,13 +45,13 @@ fn answer(alloc: Global, question: &Question) -> Result<Report, AllocError>
 pub(crate) fn share(
     alloc: Global,
     first: &[u8],
-    right: &str,
+    rights: &str,
     x: &str,
     y: &str,
 ) -> Result<Report, Halt>
-    ensures { Makes (IsFor IsAnswer (question_in first.now right.now x.now y.now)) result }
+    ensures { Makes (IsFor IsAnswer (question_in first.now rights.now x.now y.now)) result }
 {
-    let question = question_in(alloc, first, right, x, y)?;
+    let question = question_in(alloc, first, rights, x, y)?;
     let report = answer(alloc, &question)?;
     Ok(report)
 }
@@ -81,10 +81,10 @@ fn derived(alloc: Global, question: &Question) -> Result<Report, AllocError>
     requires { IsAskable (question_of question.now) }
     ensures { IfOk result (λ report. IsDerived (question_of question.now) (report_text report)) }
 {
-    match derivation(
+    match derivation_all(
         alloc,
         &question.graph,
-        question.right,
+        question.rights,
         question.x,
         question.y,
     ) {
@@ -95,17 +95,17 @@ fn derived(alloc: Global, question: &Question) -> Result<Report, AllocError>
     }
 }
 
-/// The report of a question: rules that give the right.
+/// The report of a question: rules that give each of the rights.
 pub(crate) fn derive(
     alloc: Global,
     first: &[u8],
-    right: &str,
+    rights: &str,
     x: &str,
     y: &str,
 ) -> Result<Report, Halt>
-    ensures { Makes (IsFor IsDerived (question_in first.now right.now x.now y.now)) result }
+    ensures { Makes (IsFor IsDerived (question_in first.now rights.now x.now y.now)) result }
 {
-    let question = question_in(alloc, first, right, x, y)?;
+    let question = question_in(alloc, first, rights, x, y)?;
     let report = derived(alloc, &question)?;
     Ok(report)
 }

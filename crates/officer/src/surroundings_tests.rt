@@ -189,7 +189,7 @@ fn fault_lines(rt: HostRuntime) {
 
 #[test]
 fn calls(rt: HostRuntime) {
-    let (right, x, y) = ("r", "a", "c");
+    let (rights, x, y) = ("r", "a", "c");
     calls_for(&rt, &[], Call::Input);
     calls_for(&rt, &["check", "G"], Call::File(Command::Check, "G"));
     calls_for(&rt, &["islands", "G"], Call::File(Command::Islands, "G"));
@@ -197,9 +197,9 @@ fn calls(rt: HostRuntime) {
     calls_for(&rt, &["apply", "G", "R"], rules);
     let script = Call::Files(Command::Run, "G", "S");
     calls_for(&rt, &["run", "G", "S"], script);
-    let share = Call::File(Command::Share { right, x, y }, "G");
+    let share = Call::File(Command::Share { rights, x, y }, "G");
     calls_for(&rt, &["share", "G", "r", "a", "c"], share);
-    let derive = Call::File(Command::Derive { right, x, y }, "G");
+    let derive = Call::File(Command::Derive { rights, x, y }, "G");
     calls_for(&rt, &["derive", "G", "r", "a", "c"], derive);
 }
 

@@ -8,6 +8,10 @@ const CHAIN: &[u8] = b"vertex a\nvertex b\nvertex c\nedge a b t\nedge b c r\n";
 
 const GRANTED: &[u8] = b"vertex a\nvertex b\nvertex c\nedge a b g\nedge b c r\n";
 
+const GRANTED_BOTH: &[u8] = b"vertex a\nvertex b\nvertex c\nedge a b g\nedge b c rw\n";
+
+const THREE: &[u8] = b"vertex a\nvertex b\nvertex c\n";
+
 const TWO: &[u8] = b"vertex a\nvertex b\n";
 
 const GRANTS: &[u8] = b"vertex a\nvertex b\nedge a b g\n";
@@ -204,7 +208,7 @@ fn rules_carried_out(rt: HostRuntime) -> Result<(), Fail> {
     Ok(())
 }
 
-// Whether x can come to have the right over y in the graph, and by which rules.
+// Whether x can come to have the rights over y in the graph, and by which rules.
 fn asks<R: Abort + Threads + Sync + AllocGlobal>(
     rt: &R,
     graph: &[u8],
@@ -212,9 +216,9 @@ fn asks<R: Abort + Threads + Sync + AllocGlobal>(
     share: &[u8],
     derive: &[u8],
 ) -> Result<(), Fail> {
-    let (right, x, y) = question;
-    reports(rt, Command::Share { right, x, y }, graph, b"", share, 0)?;
-    reports(rt, Command::Derive { right, x, y }, graph, b"", derive, 0)?;
+    let (rights, x, y) = question;
+    reports(rt, Command::Share { rights, x, y }, graph, b"", share, 0)?;
+    reports(rt, Command::Derive { rights, x, y }, graph, b"", derive, 0)?;
     Ok(())
 }
 
@@ -282,15 +286,39 @@ fn not_to_be_shared(rt: HostRuntime) -> Result<(), Fail> {
 }
 
 #[test]
+fn sets_of_rights(rt: HostRuntime) -> Result<(), Fail> {
+    let (no, never) = (b"no\n".as_slice(), b"# no\n".as_slice());
+    for (graph, rights, share, derive) in [
+        (
+            GRANTED_BOTH,
+            "wr",
+            b"yes\n".as_slice(),
+            b"# yes 8\ncreate a _0 tg\ngrant a b _0 g\ngrant b _0 c r\ntake a _0 c r\ncreate a _1 tg\ngrant a b _1 g\ngrant b _1 c w\ntake a _1 c w\n".as_slice(),
+        ),
+        (GRANTED, "rw", no, never),
+        (THREE, "rw", no, never),
+        (GRANTED, "-", b"yes\n", b"# yes 0\n"),
+        (THREE, "-", b"yes\n", b"# yes 0\n"),
+    ] {
+        asks(&rt, graph, (rights, "a", "c"), share, derive)?;
+    }
+    Ok(())
+}
+
+#[test]
 fn questions_refused(rt: HostRuntime) -> Result<(), Fail> {
     for (question, wanted) in [
         (("q", "a", "c"), b"refused bad-right\n".as_slice()),
+        (("rr", "a", "c"), b"refused bad-right\n"),
+        (("r-", "a", "c"), b"refused bad-right\n"),
+        (("", "a", "c"), b"refused bad-right\n"),
         (("r", "A", "c"), b"refused bad-name\n"),
         (("r", "a", "z"), b"refused unknown z\n"),
+        (("-", "a", "z"), b"refused unknown z\n"),
     ] {
-        let (right, x, y) = question;
-        reports(&rt, Command::Share { right, x, y }, CHAIN, b"", wanted, 1)?;
-        reports(&rt, Command::Derive { right, x, y }, CHAIN, b"", wanted, 1)?;
+        let (rights, x, y) = question;
+        reports(&rt, Command::Share { rights, x, y }, CHAIN, b"", wanted, 1)?;
+        reports(&rt, Command::Derive { rights, x, y }, CHAIN, b"", wanted, 1)?;
     }
     Ok(())
 }
@@ -323,11 +351,11 @@ fn islands(rt: HostRuntime) -> Result<(), Fail> {
 // The graph is read before what comes after it.
 #[test]
 fn graphs_refused_first(rt: HostRuntime) -> Result<(), Fail> {
-    let (right, x, y) = ("q", "A", "c");
+    let (rights, x, y) = ("q", "A", "c");
     for command in [
         Command::Apply,
-        Command::Share { right, x, y },
-        Command::Derive { right, x, y },
+        Command::Share { rights, x, y },
+        Command::Derive { rights, x, y },
         Command::Run,
     ] {
         reports(

@@ -52,12 +52,12 @@ fn rights_of_both_versions(rt: HostRuntime) -> Result<(), Fail> {
     let (x, y, workers) = ("a", "c", 2);
     for (command, second, wanted) in [
         (
-            Command::Share { right: "a", x, y },
+            Command::Share { rights: "a", x, y },
             b"".as_slice(),
             b"yes\n".as_slice(),
         ),
         (
-            Command::Derive { right: "d", x, y },
+            Command::Derive { rights: "d", x, y },
             b"",
             b"# yes 1\ntake a b c d\n",
         ),

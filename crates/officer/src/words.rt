@@ -19,15 +19,15 @@ pub enum Command<'a> {
     Apply,
     /// The islands of a graph.
     Islands,
-    /// Whether x can come to have the right over y.
+    /// Whether x can come to have the rights over y.
     Share {
-        right: &'a str,
+        rights: &'a str,
         x: &'a str,
         y: &'a str,
     },
-    /// Rules that give x the right over y.
+    /// Rules that give x the rights over y.
     Derive {
-        right: &'a str,
+        rights: &'a str,
         x: &'a str,
         y: &'a str,
     },
@@ -150,8 +150,16 @@ fn question<'a>(name: &str, right: &'a str, x: &'a str, y: &'a str) -> Option<Co
     ensures { option_map command_words result ≡ question name.now right.now x.now y.now }
 {
     match name {
-        "share" => Some(Command::Share { right, x, y }),
-        "derive" => Some(Command::Derive { right, x, y }),
+        "share" => Some(Command::Share {
+            rights: right,
+            x,
+            y,
+        }),
+        "derive" => Some(Command::Derive {
+            rights: right,
+            x,
+            y,
+        }),
         "table" => table_command(right, x, y),
         _ => None,
     }
