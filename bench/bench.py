@@ -36,10 +36,10 @@ def sparse(count, edges, seed=11):
     return vertices(count) + "".join(f"edge v{i} v{j} {chance.choice(rights)}\n" for i, j in sorted(pairs))
 
 
-def chain(count, right):
-    """Each vertex has the right over the next one, and the last but one reads the last."""
+def chain(count, right, held="r"):
+    """Each vertex has the right over the next one, and the last but one holds what is asked for over the last."""
     links = "".join(f"edge v{i} v{i + 1} {right}\n" for i in range(count - 2))
-    return vertices(count) + links + f"edge v{count - 2} v{count - 1} r\n"
+    return vertices(count) + links + f"edge v{count - 2} v{count - 1} {held}\n"
 
 
 def star(count):
@@ -82,8 +82,11 @@ def workloads(count):
     yield "apply", 65536, "rules", star(count), rules(count, 65536), ["apply"]
     yield "check", MANY, "edges", edges, None, ["check"]
     yield "islands", MANY, "edges", edges, None, ["islands"]
+    yield "islands of one vertex", count, "islands", chain(count, "r"), None, ["islands"]
     yield "share", MANY, "edges", edges, None, ["share", "r", "v0", last]
     yield "derive along a chain", count - 2, "links", chain(count, "g"), None, ["derive", "r", "v0", last]
+    five = chain(count, "g", "tgrwe")
+    yield "derive five rights along a chain", count - 2, "links", five, None, ["derive", "tgrwe", "v0", last]
     yield "table of one island", count * count, "cells", chain(count, "g"), None, ["table", "r"]
     yield "table of islands of one vertex", count * count, "cells", chain(count, "r"), None, ["table", "r"]
     for seats in (1, 16, 64):
