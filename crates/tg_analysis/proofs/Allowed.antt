@@ -12,6 +12,7 @@ use Rattle.tg_analysis.specs.Moves.{only, take_and_grant}
 use Rattle.tg_graph.specs.Graphs.{Name, ProtectionGraph, has_vertex}
 use Rattle.tg_graph.specs.Rules.{refused_if, unknown, missing, not_held, refusal_of}
 use Rattle.tg_graph.proofs.Sets.{same_set, member-where, named-where, member-nothing}
+use Rattle.tg_graph.proofs.RightsWords.{one_alone}
 
 pub only_named : (right : Right) → IsNamed (only right)
 only_named T = lit< tt
@@ -25,15 +26,6 @@ only_named D = lit< tt
 pub take_and_grant_named : IsNamed take_and_grant
 take_and_grant_named = lit< tt
 
-pub only_member : (right : Right) → member (only right) right ≡ true
-only_member T = refl
-only_member G = refl
-only_member R = refl
-only_member W = refl
-only_member E = refl
-only_member A = refl
-only_member D = refl
-
 pub only_full : (right : Right) → is_empty_set (only right) ≡ false
 only_full T = refl
 only_full G = refl
@@ -44,55 +36,11 @@ only_full A = refl
 only_full D = refl
 
 pub only_cases : (a b : Right) → (member (only a) b ≡ false) ⊎ (a ≡ b)
-only_cases T T = inr refl
-only_cases T G = inl refl
-only_cases T R = inl refl
-only_cases T W = inl refl
-only_cases T E = inl refl
-only_cases T A = inl refl
-only_cases T D = inl refl
-only_cases G T = inl refl
-only_cases G G = inr refl
-only_cases G R = inl refl
-only_cases G W = inl refl
-only_cases G E = inl refl
-only_cases G A = inl refl
-only_cases G D = inl refl
-only_cases R T = inl refl
-only_cases R G = inl refl
-only_cases R R = inr refl
-only_cases R W = inl refl
-only_cases R E = inl refl
-only_cases R A = inl refl
-only_cases R D = inl refl
-only_cases W T = inl refl
-only_cases W G = inl refl
-only_cases W R = inl refl
-only_cases W W = inr refl
-only_cases W E = inl refl
-only_cases W A = inl refl
-only_cases W D = inl refl
-only_cases E T = inl refl
-only_cases E G = inl refl
-only_cases E R = inl refl
-only_cases E W = inl refl
-only_cases E E = inr refl
-only_cases E A = inl refl
-only_cases E D = inl refl
-only_cases A T = inl refl
-only_cases A G = inl refl
-only_cases A R = inl refl
-only_cases A W = inl refl
-only_cases A E = inl refl
-only_cases A A = inr refl
-only_cases A D = inl refl
-only_cases D T = inl refl
-only_cases D G = inl refl
-only_cases D R = inl refl
-only_cases D W = inl refl
-only_cases D E = inl refl
-only_cases D A = inl refl
-only_cases D D = inr refl
+only_cases a b = by (member (only a) b) refl
+  where
+    by : (m : Bool) → member (only a) b ≡ m → (member (only a) b ≡ false) ⊎ (a ≡ b)
+    by true e = inr (one_alone a b e)
+    by false e = inl e
 
 no_member : (s : Rights) → IsNamed s → ((right : Right) → member s right ≡ false) → is_empty_set s ≡ true
 no_member s named none = eq-eqb s.0 0 (ap (λ (r : Rights). r.0) (same_set s nothing (λ right. none right ∙ sym (member-nothing right)) named (lit< tt)))

@@ -20,7 +20,8 @@ use Rattle.tg_analysis.specs.Numbering.{AreCounted, AreIslands}
 use Rattle.tg_analysis.specs.Holdings.{is_marked, holds_over, JoinsHoldings}
 use Rattle.tg_analysis.specs.Gathered.{target_of, HasEdge, HasEdgeFrom, TakesEdges, Gathers}
 use Rattle.tg_analysis.specs.Tables.{table_cell, TellsWhether, IsPairTable}
-use Rattle.tg_analysis.proofs.Places.{position-at, at-position, place_of, place-known, holds-place, place-holds}
+use Rattle.tg_graph.proofs.Positions.{at-position}
+use Rattle.tg_analysis.proofs.Places.{position-at, place_of, place-known, holds-place, place-holds}
 
 either : (a b : Bool) → (a || b) ≡ true → (a ≡ true) ⊎ (b ≡ true)
 either true b h = inl refl

@@ -17,7 +17,8 @@ use Rattle.tg_graph.specs.Rows.{Edges, Entries, IsGraph, row_number}
 use Rattle.tg_analysis.specs.Sharing.{linked}
 use Rattle.tg_analysis.specs.Linked.{NeighbourLists, is_near, AreLinks, JoinsNeighbours, linked_end, IsBefore, LinksUpTo}
 use Rattle.tg_analysis.proofs.OneIsland.{linked_sym}
-use Rattle.tg_analysis.proofs.Places.{position-at, at-position, holds-place, place-holds}
+use Rattle.tg_graph.proofs.Positions.{at-position}
+use Rattle.tg_analysis.proofs.Places.{position-at, holds-place, place-holds}
 
 -- ---- one more edge
 module _ (es : Entries) (i here : ℕ) where

@@ -19,7 +19,8 @@ use Rattle.tg_analysis.specs.Moves.{only, take_and_grant}
 use Rattle.tg_analysis.specs.Derivations.{Extends}
 use Rattle.tg_analysis.proofs.NameTests.{same_refl, any_push}
 use Rattle.tg_analysis.proofs.Fresh.{fresh}
-use Rattle.tg_analysis.proofs.Allowed.{only_named, take_and_grant_named, only_member, take_accepted, grant_accepted, create_accepted}
+use Rattle.tg_graph.proofs.RightsWords.{one_itself}
+use Rattle.tg_analysis.proofs.Allowed.{only_named, take_and_grant_named, take_accepted, grant_accepted, create_accepted}
 
 pub both_accepted : (g : ProtectionGraph) (rs qs : List Rule) → AllAccepted g rs → AllAccepted (after_all g rs) qs → AllAccepted g (rs ++ qs)
 both_accepted g [] qs a b = b
@@ -120,17 +121,17 @@ by_helper g p q n y right kp kq kn ky takes grants has =
     let h = after g (Grant q n y (only right)) in
     let a = grant_step g q n y right kq kn ky grants has in
     let k = keeps g (Grant q n y (only right) ∷ []) [] a in
-    let b = take_step h p n y right (stays g h p k kp) (stays g h n k kn) (stays g h y k ky) (a.triples p T n takes) (new_edge g.holds n y (only right) right (only_member right)) in
-    (extends_then g (Grant q n y (only right) ∷ []) (Take p n y (only right) ∷ []) [] [] a b, new_edge h.holds p y (only right) right (only_member right))
+    let b = take_step h p n y right (stays g h p k kp) (stays g h n k kn) (stays g h y k ky) (a.triples p T n takes) (new_edge g.holds n y (only right) right (one_itself right)) in
+    (extends_then g (Grant q n y (only right) ∷ []) (Take p n y (only right) ∷ []) [] [] a b, new_edge h.holds p y (only right) right (one_itself right))
 
 module _ (g : ProtectionGraph) (p q y : Name) (right : Right) (kp : Known g p) (kq : Known g q) (ky : Known g y) (has : IsTrue (g.holds q right y)) where
   pub move_take : IsTrue (g.holds p T q) → Gives g (Take p q y (only right) ∷ []) [] p right y
   unfolding after
-  move_take takes = (take_step g p q y right kp kq ky takes has, new_edge g.holds p y (only right) right (only_member right))
+  move_take takes = (take_step g p q y right kp kq ky takes has, new_edge g.holds p y (only right) right (one_itself right))
 
   pub move_granted : IsTrue (g.holds q G p) → Gives g (Grant q p y (only right) ∷ []) [] p right y
   unfolding after
-  move_granted grants = (grant_step g q p y right kq kp ky grants has, new_edge g.holds p y (only right) right (only_member right))
+  move_granted grants = (grant_step g q p y right kq kp ky grants has, new_edge g.holds p y (only right) right (one_itself right))
 
   module _ (n : Name) (name : IsName n) (new : has_vertex g n ≡ false) where
     abbrev created : ProtectionGraph

@@ -17,7 +17,7 @@ use Rattle.tg_graph.specs.RuleLists.{CanShare, CanShareAll, after_all}
 use Rattle.tg_analysis.specs.Moves.{only}
 use Rattle.tg_analysis.specs.Derivations.{IsSoFar, IsPart, IsDerivation}
 use Rattle.tg_analysis.specs.SetDerivations.{rights_in, AreParts, IsDerivationOfAll, AddsPart, HasParts, OneRightAlone, DerivationsOfAllAreShort}
-use Rattle.tg_analysis.proofs.Allowed.{only_member}
+use Rattle.tg_graph.proofs.RightsWords.{one_itself}
 use Rattle.tg_analysis.proofs.OverLinks.{after_both}
 use Rattle.tg_analysis.proofs.Derived.{part_short}
 
@@ -130,7 +130,7 @@ one_right_alone g right x y rules = (
     alone d =
         let parts = subst (λ rs. AreParts g g x y rs rules) (only_rights right) d.parts in
         let is : rules ≡ parts.0 = parts.4 ∙ ap (λ rs. parts.0 ++ rs) parts.3 ∙ append-nil parts.0 in
-        record { accepted = d.accepted; gives = d.gives right (only_member right); part = subst (λ rs. IsPart g g right x y rs) (sym is) parts.2 }
+        record { accepted = d.accepted; gives = d.gives right (one_itself right); part = subst (λ rs. IsPart g g right x y rs) (sym is) parts.2 }
 
 -- where a right can't be shared alone, no set with it can be
 pub not_all : (g : ProtectionGraph) (s : Rights) (right : Right) (x y : Name) → member s right ≡ true → (CanShare g right x y → ⊥) → CanShareAll g s x y → ⊥

@@ -8,7 +8,6 @@ use Rattle.std.proofs.lemmas.Option.{slice_get_within, get_or_from_slice_get, sl
 use Rattle.std.proofs.lemmas.Bool.{lt-ltb}
 use Rattle.std.proofs.lemmas.List.Folds.{list_any_at, Any-from_list_any}
 use Rattle.std.proofs.lemmas.List.Sums.{position_or_len_is}
-use Rattle.std.proofs.lemmas.List.Quantifiers.{position-Some}
 use Rattle.std.proofs.lemmas.Map.Made.{AllPairs-from_IsDistinct}
 use Rattle.std.proofs.lemmas.Map.Entries.{place_from_lookup, lookup_from_place}
 use Rattle.std.proofs.lemmas.Slice.Eq.{bytes_eq-Decides}
@@ -41,10 +40,6 @@ module _ (ks : List Name) (apart : IsDistinct bytes_eq ks) where
           by : (t : Bool) → bytes_eq v (get_or ks k v) ≡ t → bytes_eq v (get_or ks k v) ≡ false
           by false p = p
           by true p = absurd (AllPairs-from_IsDistinct bytes_eq-Decides ks apart k b v h lt (sym (same_bytes v (get_or ks k v) p) ∙ sym here))
-
-pub at-position : (ks : List Name) (v : Name) (b : ℕ) → position (bytes_eq v) ks ≡ Some b → slice_get ks b ≡ Some v
-at-position ks v b e =
-    let h = position-Some (bytes_eq v) ks b v e in slice_get-get_or ks b v h.0 ∙ ap Some (sym (same_bytes v (get_or ks b v) h.1))
 
 -- a name of the list stands somewhere
 pub place_of : (ks : List Name) (v : Name) → list_any (bytes_eq v) ks ≡ true → (a : ℕ) × (slice_get ks a ≡ Some v)

@@ -15,7 +15,8 @@ use Rattle.tg_analysis.specs.Sharing.{linked}
 use Rattle.tg_analysis.specs.Linked.{NeighbourLists, neighbours, AreLinks}
 use Rattle.tg_analysis.specs.Searches.{Visits, is_among, with_met, IsSearch, IsInOrder, GoesRound, AddsUnmet, AreNear, AreUnmetAt, AreUnmet, Meets}
 use Rattle.tg_analysis.proofs.NameTests.{same_refl}
-use Rattle.tg_analysis.proofs.Places.{at-position, place_of}
+use Rattle.tg_graph.proofs.Positions.{at-position}
+use Rattle.tg_analysis.proofs.Places.{place_of}
 use Rattle.tg_analysis.proofs.Searched.{visit-key, key-visit, grows-then, grows-met, is-met, search-met, order-met}
 use Rattle.tg_analysis.proofs.Underway.{linked_ends}
 

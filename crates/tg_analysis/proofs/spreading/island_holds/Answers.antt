@@ -2,7 +2,7 @@ use Rattle.std.proofs.Common.{◌<◌, ◌^◌, length, sym, ◌∙◌, arith}
 use Rattle.std.specs.Map.{keys_of}
 use Rattle.std.proofs.lemmas.Map.Entries.{length-keys_of}
 use Rattle.tg_graph.specs.GraphOf.{graph_of}
-use Rattle.tg_analysis.proofs.Places.{at-position}
+use Rattle.tg_graph.proofs.Positions.{at-position}
 use Rattle.tg_analysis.proofs.Rounds.{position-none}
 use Rattle.tg_analysis.proofs.Spreads.{spread-begins, all_held, then_none_missing}
 use Rattle.tg_analysis.proofs.spreading.island_holds.Goals as goal
