@@ -1,5 +1,5 @@
 -- What the calls of a running session keep.
-use Rattle.std.proofs.Common.{◌≡◌, ℕ, ◌+◌, ◌<◌, ◌≤◌, ◌⊎◌, List, [], ◌∷◌, ◌++◌, length, take, None, Some, refl, sym, ap, subst, ◌∙◌, arith, inl, inr}
+use Rattle.std.proofs.Common.{◌≡◌, ℕ, ◌+◌, ◌<◌, ◌≤◌, ◌⊎◌, List, [], ◌∷◌, ◌++◌, length, Some, refl, sym, ap, subst, ◌∙◌, arith, inl, inr}
 use Rattle.std.specs.Prelude.{slice_get}
 use Rattle.std.proofs.lemmas.Bool.{cases_lt}
 use Rattle.std.proofs.lemmas.List.{length-append}
@@ -28,7 +28,7 @@ use Rattle.tg_graph.specs.Drafts.{Changes, laid_over}
 use Rattle.tg_store.specs.Drafted.{drafted, IsDraftOf}
 use Rattle.tg_journal.specs.declared.answers.Put.{Put}
 use Rattle.tg_store.proofs.Ordered.{replay-next}
-use Rattle.tg_store.proofs.RunningSeats.{begins-refl, begins-back, graph-kept, goes_on-refl, goes_on-trans, goes_on-taken, get-push, seat-at, seat-put, seat-not-won, put-goes_on}
+use Rattle.tg_store.proofs.RunningSeats.{begins-back, graph-kept, goes_on-refl, goes_on-trans, goes_on-taken, get-push, seat-at, seat-put, seat-not-won, put-goes_on}
 
 -- ---- records that obstruct no session
 pub none-yet : (s : RunningSeat) (steps : List Answered) (from to : ℕ) → to ≤ from → NoneObstructs s steps from to

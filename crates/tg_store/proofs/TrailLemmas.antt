@@ -1,5 +1,5 @@
 -- Where records wrote, and how a seat comes by that to where another stands.
-use Rattle.std.proofs.Common.{◌≡◌, ◌≢◌, ℕ, zero, suc, ◌+◌, ◌-◌, ◌<◌, ◌≤◌, ◌⊎◌, inl, inr, ◌++◌, ◌||◌, Bool, true, false, cond, List, [], ◌∷◌, length, take, drop, get_or, map, All, Option, None, Some, MatchOption, refl, sym, ap, subst, ◌∙◌, arith, true≢false, bytes_eq}
+use Rattle.std.proofs.Common.{◌≡◌, ℕ, zero, suc, ◌+◌, ◌<◌, ◌≤◌, ◌⊎◌, inl, inr, ◌++◌, ◌||◌, Bool, true, false, cond, List, [], ◌∷◌, length, take, drop, get_or, map, All, Option, None, Some, MatchOption, refl, sym, ap, subst, ◌∙◌, arith, true≢false, bytes_eq}
 use Rattle.std.specs.Prelude.{slice_get}
 use Rattle.std.specs.Option.{option_map_or, option_map}
 use Rattle.std.specs.List.{list_any, filter_map, cons_option}

@@ -1,15 +1,8 @@
 -- `==` holds of the same steps, replies and records alone.
-use Rattle.std.specs.Prelude.{◌≡◌, ℕ, List, [], ◌∷◌, Bool, true, false, ◌&&◌, ◌↔◌, IsTrue, refl, bytes_eq}
+use Rattle.std.specs.Prelude.{◌≡◌, List, [], ◌∷◌, Bool, true, false, ◌&&◌, ◌↔◌, IsTrue, refl, bytes_eq}
 use Rattle.std.proofs.Common.{rules, nat_eq, subst}
 use Rattle.std.proofs.lemmas.Bool.{eq-eqb, eqb-true}
 use Rattle.std.specs.Cmp.Lexicographic.{pointwise}
-use Rattle.tg_graph.specs.declared.right_sets.Right.{Right}
-use Rattle.tg_graph.specs.declared.right_sets.Rights.{Rights}
-use Rattle.tg_graph.specs.declared.rules.Rule.{Rule}
-use Rattle.tg_graph.specs.declared.rules.Refusal.{Refusal}
-use Rattle.tg_graph.specs.declared.session.Step.{Step}
-use Rattle.tg_graph.specs.declared.session.Reply.{Reply}
-use Rattle.tg_graph.specs.Graphs.{Name}
 use Rattle.tg_graph.specs.contracts.right_sets.RightPartialEq.TheImpl as right
 use Rattle.tg_graph.specs.contracts.right_sets.RightsPartialEq.TheImpl as rights
 use Rattle.tg_graph.specs.contracts.rules.RulePartialEq.TheImpl as rule

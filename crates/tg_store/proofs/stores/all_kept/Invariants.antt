@@ -1,4 +1,4 @@
-use Rattle.std.proofs.Common.{◌≡◌, ℕ, ◌<◌, get_or}
+use Rattle.std.proofs.Common.{ℕ, ◌<◌, get_or}
 use Rattle.tg_store.specs.Running.{RunningSeat, IsSeat}
 use Rattle.tg_store.proofs.stores.all_kept.Given as goal
 

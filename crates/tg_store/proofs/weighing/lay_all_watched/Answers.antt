@@ -4,8 +4,6 @@ use Rattle.std.specs.List.{list_any}
 use Rattle.std.proofs.lemmas.List.{take_more}
 use Rattle.tg_graph.specs.Graphs.{same_name}
 use Rattle.tg_graph.specs.GraphOf.{graph_of}
-use Rattle.tg_graph.specs.Drafts.{Changes, Fits}
-use Rattle.tg_graph.proofs.Drafts.{fits-none}
 use Rattle.tg_store.specs.Answers.{after_step}
 use Rattle.tg_store.specs.Drafted.{drafted}
 use Rattle.tg_store.specs.Touches.{touches, step_writes, writes, spoiler}

@@ -1,4 +1,4 @@
-use Rattle.std.proofs.Common.{◌≡◌, length, refl, sym, ap, ◌∙◌, subst}
+use Rattle.std.proofs.Common.{◌≡◌, refl, sym, ap, ◌∙◌, subst}
 use Rattle.tg_store.specs.Running.{RunningSeat}
 use Rattle.tg_store.specs.Looks.{LookSays}
 use Rattle.tg_store.proofs.RunningSeats.{looked, look-says}

@@ -1,6 +1,3 @@
-use Rattle.std.proofs.Common.{◌≡◌, ◌-◌, ◌+◌, length}
-use Rattle.tg_store.specs.Running.{IsSeat, GoesOn, PutsNothing}
-use Rattle.tg_store.specs.Looks.{FindSays}
 use Rattle.tg_store.proofs.RunningSeats.{Looked, left_after}
 use Rattle.tg_store.proofs.running_seats.Seat.look_all.Given as goal
 

@@ -1,4 +1,4 @@
-use Rattle.std.proofs.Common.{length, refl, sym, ap, ◌∙◌}
+use Rattle.std.proofs.Common.{refl}
 use Rattle.tg_store.specs.Running.{RunningSeat}
 use Rattle.tg_store.proofs.RunningSeats.{seat-sees}
 use Rattle.tg_store.proofs.running_seats.Seat.meet.Goals as goal

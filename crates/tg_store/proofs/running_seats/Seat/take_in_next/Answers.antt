@@ -1,5 +1,4 @@
-use Rattle.std.proofs.Common.{◌≡◌, ◌+◌, ◌<◌, length, sym, ap, subst, ◌∙◌, arith, Some}
-use Rattle.std.specs.Prelude.{slice_get}
+use Rattle.std.proofs.Common.{◌+◌, ◌<◌, length, sym, ap, subst, ◌∙◌, arith}
 use Rattle.tg_graph.specs.GraphOf.{graph_of}
 use Rattle.tg_store.specs.Answers.{after_steps}
 use Rattle.tg_store.specs.Running.{RunningSeat}

@@ -1,4 +1,4 @@
-use Rattle.std.proofs.Common.{◌-◌, ◌+◌, ◌*◌, length}
+use Rattle.std.proofs.Common.{◌-◌, ◌+◌, length}
 use Rattle.tg_store.specs.declared.outcomes.Committed.TheVariants.{Again}
 use Rattle.tg_store.specs.Outcomes.{CommitSays}
 use Rattle.tg_store.specs.Attempts.{progress}

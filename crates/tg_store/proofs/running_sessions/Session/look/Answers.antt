@@ -1,7 +1,7 @@
 use Rattle.std.proofs.Common.{◌≡◌, length, sym, subst}
 use Rattle.tg_store.specs.declared.outcomes.Committed.TheVariants.{Refused}
 use Rattle.tg_store.specs.declared.outcomes.CommitFault.TheVariants.{Foreign}
-use Rattle.tg_store.specs.Running.{RunningSeat, RunningSession}
+use Rattle.tg_store.specs.Running.{RunningSession}
 use Rattle.tg_store.specs.Looks.{LookSays}
 use Rattle.tg_store.specs.Outcomes.{CommitSays}
 use Rattle.tg_store.proofs.RunningSessions.{look-foreign}

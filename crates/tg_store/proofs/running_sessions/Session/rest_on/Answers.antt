@@ -1,15 +1,12 @@
-use Rattle.std.proofs.Common.{◌≡◌, sym, ap, subst, ◌∙◌, bytes_eq}
+use Rattle.std.proofs.Common.{sym, subst, bytes_eq}
 use Rattle.std.specs.List.{IsDistinct}
 use Rattle.std.specs.Map.{keys_of}
-use Rattle.tg_store.specs.declared.outcomes.Committed.TheVariants.{Again}
 use Rattle.tg_store.specs.declared.weighing.Weighed.TheVariants.{Clear}
 use Rattle.tg_store.specs.declared.running_sessions.Attempt.TheVariants.{Further}
 use Rattle.tg_store.specs.Seats.{IsSessionOn}
-use Rattle.tg_store.specs.Running.{RunningSeat, RunningSession}
-use Rattle.tg_store.specs.Outcomes.{CommitSays}
 use Rattle.tg_store.specs.Attempts.{IsNext, AttemptSays}
 use Rattle.tg_store.proofs.SeatLemmas.{session-clear}
-use Rattle.tg_store.proofs.RunningSessions.{next-draft, rested, commit-start}
+use Rattle.tg_store.proofs.RunningSessions.{next-draft, rested}
 use Rattle.tg_store.proofs.running_sessions.Session.rest_on.Goals as goal
 
 pub take_in-requires-clause-fits : goal.take_in-requires-clause-fits

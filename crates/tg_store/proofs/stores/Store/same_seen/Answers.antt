@@ -1,4 +1,4 @@
-use Rattle.std.proofs.Common.{◌≡◌, length, refl, sym, ◌∙◌, arith}
+use Rattle.std.proofs.Common.{◌≡◌, length, refl, arith}
 use Rattle.tg_store.proofs.Agreeing.{lists-same}
 use Rattle.tg_store.proofs.stores.Store.same_seen.Goals as goal
 
