@@ -14,6 +14,7 @@ pub mod RunLaws
 pub mod RowsOf
 pub mod NewNames
 pub mod Drafts
+pub mod EdgeLists
 pub mod DraftLaws
 pub mod NameNumbers
 pub mod TakenOver

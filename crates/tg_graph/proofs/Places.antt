@@ -1,7 +1,7 @@
 -- The place of an edge in a row, and what a change at that place does.
 use Rattle.std.proofs.Common.{◌≡◌, ℕ, zero, suc, ◌+◌, ◌<◌, ◌≤◌, true, false, cond, List, [], ◌∷◌, length, get_or, set, Some, None, Result, Ok, Err, IfOk, IfErr, IsSome, is_some, refl, sym, ap, subst, ◌∙◌, bytes_eq, nat_cmp, arith, add-one, ⊎_elim, true≢false}
 use Rattle.std.specs.List.{insert, remove, AllByRecursion, IsDistinct}
-use Rattle.std.specs.List.Sorted.{IsStrictlySortedBy, IsSearchInRange, IsBinarySearchResult, IsNonDecreasingBy}
+use Rattle.std.specs.List.Sorted.{IsStrictlySortedBy, IsNonDecreasingBy}
 use Rattle.std.specs.Map.{keys_of, lookup, set_value, remove_entry}
 use Rattle.std.specs.Ordering.{is_eq, is_lt, is_gt, ordering_index, ordering_reverse}
 use Rattle.std.specs.declared.cmp.Ordering.{Ordering}
@@ -166,22 +166,6 @@ searchable row v h = searchable_from_sorted nat_list_cmp_total (λ (e : List ℕ
     subst (λ m. is_lt (name_cmp (get_or row m d).0 (get_or row k d).0) ≡ false) (sym (add-one k))
     (not_less _ _ (rises row k d h (omega arith)) (nat_list_cmp_total.antisymm (get_or row (suc k) d).0 (get_or row k d).0)))
 
--- what a search for v says of the row
-pub record Searched (row : Edges) (v : List ℕ) (r : Result ℕ ℕ) : Type 0 where
-  pub found : IfOk r (IsPlaceOf row v)
-  pub absent : IfErr r (IsGapFor row v)
-
-pub searched : (row : Edges) (v : List ℕ) (r : Result ℕ ℕ) → IsUp row → IsSearchInRange r (length row) → IsBinarySearchResult (λ (e : List ℕ × Rights). name_cmp e.0 v) row r → Searched row v r
-searched row v (Ok i) h l at = record { found = record { in_range = l; target = λ d. exact_bytes (get_or row i d).0 v (at d) }; absent = tt }
-searched row v (Err i) h l parts = record {
-  found = tt;
-  absent = record {
-    in_range = l;
-    lesser = λ k d b. (parts (searchable row v h)).0 k d (omega arith) b;
-    greater = λ k d a b. (parts (searchable row v h)).1 k d a b;
-  };
-}
-
 -- ---- a place that one comparison on either side settles
 least : (r : Ordering) → ordering_index r ≤ 0 → r ≡ Less
 least Less h = refl
@@ -193,7 +177,7 @@ most Less h = absurd (omega arith)
 most Equal h = absurd (omega arith)
 most Greater h = refl
 
--- e stands at the place i of the row, and the test of an order tells how it lies to v
+-- an edge to n stands at the place i of the row, and the test of an order tells how n lies to v
 tests_less : (r : Ordering) → is_lt r ≡ true → ordering_index r ≤ 0
 tests_less Less h = omega arith
 tests_less Equal h = absurd (true≢false (sym h))
@@ -204,14 +188,17 @@ tests_greater Less h = absurd (true≢false (sym h))
 tests_greater Equal h = absurd (true≢false (sym h))
 tests_greater Greater h = omega arith
 
-module _ (row : Edges) (v : List ℕ) (i : ℕ) (e : List ℕ × Rights) (up : IsUp row) (within : i < length row) (is : e ≡ get_or row i e) where
-  at_place : (d : List ℕ × Rights) → ordering_index (name_cmp (get_or row i d).0 v) ≡ ordering_index (name_cmp e.0 v)
-  at_place d = ap (λ (x : List ℕ × Rights). ordering_index (name_cmp x.0 v)) (get_or_default row i d e within ∙ sym is)
+module _ (row : Edges) (v : List ℕ) (i : ℕ) (n : List ℕ) (up : IsUp row) (within : i < length row) (is : (d : List ℕ × Rights) → n ≡ (get_or row i d).0) where
+  at_place : (d : List ℕ × Rights) → ordering_index (name_cmp (get_or row i d).0 v) ≡ ordering_index (name_cmp n v)
+  at_place d = ap (λ (x : List ℕ). ordering_index (name_cmp x v)) (sym (is d))
 
-  pub below_from_last : (place : ℕ) → place ≡ i + 1 → is_lt (name_cmp e.0 v) ≡ true → AreBelow row v place
+  pub below_from_last : (place : ℕ) → place ≡ i + 1 → is_lt (name_cmp n v) ≡ true → AreBelow row v place
   below_from_last place s t k d b =
       least (name_cmp (get_or row k d).0 v) (omega (arith, searchable row v up k i d (omega arith) within, at_place d, tests_less _ t))
 
-  pub above_from_first : is_gt (name_cmp e.0 v) ≡ true → AreAbove row v i
+  pub above_from_first : is_gt (name_cmp n v) ≡ true → AreAbove row v i
   above_from_first t k d a b =
       most (name_cmp (get_or row k d).0 v) (omega (arith, searchable row v up i k d a b, at_place d, tests_greater _ t))
+
+  pub place_from_equal : name_cmp n v ≡ Equal → IsPlaceOf row v i
+  place_from_equal e = record { in_range = within; target = λ d. sym (is d) ∙ exact_bytes n v e }

@@ -1,5 +1,5 @@
 -- Rows that are taken over from another graph.
-use Rattle.std.proofs.Common.{◌≡◌, ℕ, zero, suc, Bool, true, false, cond, List, [], ◌∷◌, ◌++◌, length, Option, None, Some, refl, sym, ap, subst, ◌∙◌, bytes_eq, is_some, map, IfSome, ◌||◌}
+use Rattle.std.proofs.Common.{◌≡◌, ℕ, zero, suc, ◌<◌, nat_lt, Bool, true, false, cond, List, [], ◌∷◌, ◌++◌, length, get_or, Option, None, Some, refl, sym, ap, subst, ◌∙◌, bytes_eq, is_some, map, IfSome, ◌||◌, arith, lt-ltb}
 use Rattle.std.specs.Prelude.{if◌then◌else◌, slice_get, ⊤}
 use Rattle.std.specs.Option.{option_map_or}
 use Rattle.std.specs.List.{list_any, cons_option, IsDistinct, AllByRecursion}
@@ -9,16 +9,40 @@ use Rattle.std.proofs.lemmas.List.{length-map}
 use Rattle.std.proofs.lemmas.List.Folds.{list_any-append}
 use Rattle.std.proofs.lemmas.Map.Entries.{lookup_from_place}
 use Rattle.std.proofs.lemmas.Map.Made.{is_some-lookup}
-use Rattle.std.proofs.lemmas.Option.{none-some, same_Some}
+use Rattle.std.proofs.lemmas.Option.{none-some, same_Some, slice_get_within, get_or_from_slice_get}
 use Rattle.indexmap.specs.IndexMap.{insert_entry, insert_all}
 use Rattle.indexmap.specs.IndexSet.{insert_key, insert_all as set_all}
 use Rattle.indexmap.specs.Layout.{set_value_at}
 use Rattle.indexmap.proofs.SetLemmas.{keys_insert_all}
 use Rattle.tg_graph.specs.Rows.{Edges, Entries, IsGraph, IsRow, is_target, is_known}
+use Rattle.std.specs.List.{position, position_or_len}
+use Rattle.std.proofs.lemmas.List.Sums.{position_or_len_is}
 use Rattle.tg_graph.specs.Drafts.{entries_at, taken_over}
 use Rattle.tg_graph.proofs.NewNames.{is_among}
 use Rattle.tg_graph.proofs.Rows.{symm, same_bytes}
 use Rattle.tg_graph.proofs.Drafts.{lookup-put, put-set}
+
+-- a vertex that is apart from each of some is apart from the one at a place
+apart-at : (x n : List ℕ) (ks : List (List ℕ)) (i : ℕ) → AllByRecursion (λ z. bytes_eq x z ≡ false) ks → slice_get ks i ≡ Some n → bytes_eq x n ≡ false
+apart-at x n [] i h at = absurd (none-some n at)
+apart-at x n (k ∷ ks) zero h at = ap (bytes_eq x) (sym (same_Some k n at)) ∙ h.0
+apart-at x n (k ∷ ks) (suc i) h at = apart-at x n ks i h.1 at
+
+-- the position of a vertex is where it stands
+differs : (n : List ℕ) (ks : List (List ℕ)) (k i : ℕ) (d : List ℕ) → IsDistinct bytes_eq ks → k < i → slice_get ks i ≡ Some n → bytes_eq n (get_or ks k d) ≡ false
+unfolding IsDistinct
+differs n [] k i d h l at = absurd (none-some n at)
+differs n (x ∷ ks) k zero d h l at = absurd (omega arith)
+differs n (x ∷ ks) zero (suc i) d h l at = symm n x ∙ apart-at x n ks i h.0 at
+differs n (x ∷ ks) (suc k) (suc i) d h l at = differs n ks k i d h.1 (omega arith) at
+
+pub position-at : (ks : List (List ℕ)) (i : ℕ) (n : List ℕ) → IsDistinct bytes_eq ks → slice_get ks i ≡ Some n → position (bytes_eq n) ks ≡ Some i
+position-at ks i n d at =
+    let within : i < length ks = slice_get_within ks i n at in
+    let first : position_or_len (bytes_eq n) ks ≡ i =
+    position_or_len_is (bytes_eq n) ks i [] (omega (arith, within)) (λ k l. differs n ks k i [] d l at)
+    (λ _. ap (bytes_eq n) (get_or_from_slice_get ks i n [] at) ∙ nat_list_eq_equiv.refl n) in
+    ap (λ m. cond (nat_lt m (length ks)) (Some m) None) first ∙ ap (λ b. cond b (Some i) None) (lt-ltb i _ within)
 
 -- ---- a row that is put in at its place
 pub set-at : (es : Entries) (i : ℕ) (n : List ℕ) (row : Edges) → IsDistinct bytes_eq (keys_of es) → slice_get (keys_of es) i ≡ Some n → set_value_at es i row ≡ insert_entry bytes_eq es n row
@@ -27,12 +51,7 @@ set-at [] i n row d at = absurd (none-some n at)
 set-at (e ∷ es) zero n row d at = sym (ap (λ b. if b then (e.0, row) ∷ es else e ∷ insert_entry bytes_eq es n row) (ap (λ k. bytes_eq k e.0) (sym (same_Some e.0 n at)) ∙ nat_list_eq_equiv.refl e.0))
 set-at (e ∷ es) (suc i) n row d at =
     ap (λ l. e ∷ l) (set-at es i n row d.1 at)
-    ∙ sym (ap (λ b. if b then (e.0, row) ∷ es else e ∷ insert_entry bytes_eq es n row) (symm n e.0 ∙ other (keys_of es) i d.0 at))
-  where
-    other : (ks : List (List ℕ)) (i : ℕ) → AllByRecursion (λ z. bytes_eq e.0 z ≡ false) ks → slice_get ks i ≡ Some n → bytes_eq e.0 n ≡ false
-    other [] i h at = absurd (none-some n at)
-    other (k ∷ ks) zero h at = ap (bytes_eq e.0) (sym (same_Some k n at)) ∙ h.0
-    other (k ∷ ks) (suc i) h at = other ks i h.1 at
+    ∙ sym (ap (λ b. if b then (e.0, row) ∷ es else e ∷ insert_entry bytes_eq es n row) (symm n e.0 ∙ apart-at e.0 n (keys_of es) i d.0 at))
 
 -- the row at the place of a vertex is the vertex's
 pub row-at : (es : Entries) (i : ℕ) (n : List ℕ) (row : Edges) → IsDistinct bytes_eq (keys_of es) → slice_get (keys_of es) i ≡ Some n → slice_get (map (λ e. e.1) es) i ≡ Some row → lookup (bytes_eq n) es ≡ Some row

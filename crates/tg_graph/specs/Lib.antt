@@ -15,4 +15,5 @@ pub mod RightsWords
 pub mod Laws
 pub mod Limits
 pub mod Drafts
+pub mod EdgeLists
 pub mod TakenRows

@@ -17,7 +17,9 @@ use crate::right_sets::{Right, Rights};
 use crate::row::Row;
 use crate::row_maps;
 use crate::rules::{Refusal, Rule, RuleFault};
+use crate::shared_names::{Hint, SharedNames};
 use crate::shared_row::SharedRow;
+use crate::targets::shared_with;
 use indexmap::IndexMap;
 use std::alloc::{AllocError, Global};
 use std::marker::Model;
@@ -80,11 +82,15 @@ fn widen(
     ensures err { OnErr result (rows.new.entries ≡ rows.old.entries) }
     ensures room { spare rows.old ≤ spare rows.new + 1 }
 {
+    let hint = Hint {
+        names: base.names.as_ref(),
+        number: base.position(y).unwrap_or(0),
+    };
     match rows.get_mut(&x) {
-        Some(row) => row.add(y, rights),
+        Some(row) => row.add(y, rights, hint),
         None => {
             let mut row = base.row_of(x)?;
-            row.add(y, rights)?;
+            row.add(y, rights, hint)?;
             rows.insert(x, row)?;
             Ok(())
         }
@@ -301,7 +307,8 @@ impl Draft {
         let changes = row_maps::shared(&self.rows)?;
         rows.reserve(self.created())?;
         row_maps::put_all(&mut rows, changes);
-        Ok(Graph::of_rows(rows, base.alloc))
+        let names = shared_with(base.names.as_ref())?;
+        Ok(Graph::of_rows(rows, names, base.alloc))
     }
 }
 
@@ -312,6 +319,7 @@ impl Draft {
 #[derive(Drop)]
 pub struct Ready {
     rows: IndexMap<Name, SharedRow>,
+    names: Option<SharedNames>,
     alloc: Global,
     draft: Draft,
 }
@@ -340,12 +348,18 @@ impl Ready {
     {
         let Graph {
             mut rows,
+            names,
             alloc,
             ..
         } = base;
         match rows.reserve(draft.created()) {
-            Ok(()) => Ok(Ready { rows, alloc, draft }),
-            Err(AllocError) => Err((Graph::of_rows(rows, alloc), draft)),
+            Ok(()) => Ok(Ready {
+                rows,
+                names,
+                alloc,
+                draft,
+            }),
+            Err(AllocError) => Err((Graph::of_rows(rows, names, alloc), draft)),
         }
     }
 
@@ -356,20 +370,26 @@ impl Ready {
     {
         let Ready {
             mut rows,
+            names,
             alloc,
             draft,
         } = self;
         let Draft { rows: changed, .. } = draft;
         row_maps::put_all(&mut rows, changed);
-        Graph::of_rows(rows, alloc)
+        Graph::of_rows(rows, names, alloc)
     }
 
     /// The graph and the draft.
     pub fn into_parts(self) -> (Graph, Draft)
         ensures { result ≡ self }
     {
-        let Ready { rows, alloc, draft } = self;
-        (Graph::of_rows(rows, alloc), draft)
+        let Ready {
+            rows,
+            names,
+            alloc,
+            draft,
+        } = self;
+        (Graph::of_rows(rows, names, alloc), draft)
     }
 }
 

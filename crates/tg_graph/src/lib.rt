@@ -7,6 +7,7 @@ mod draft;
 mod draft_memory_tests;
 #[cfg(test)]
 mod draft_tests;
+mod edge_list;
 #[cfg(test)]
 mod famine_tests;
 pub mod laws;
@@ -18,9 +19,13 @@ mod protection;
 mod right_sets;
 mod row;
 mod row_maps;
+#[cfg(test)]
+mod row_tests;
 mod rules;
 mod session;
+mod shared_names;
 mod shared_row;
+mod targets;
 #[cfg(test)]
 mod test_values;
 #[cfg(test)]

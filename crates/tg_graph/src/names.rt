@@ -147,6 +147,13 @@ impl Name {
         u128::from_be_bytes(self.padded)
     }
 
+    /// A number of 32 bits in which names mostly differ.
+    pub(crate) fn spread(&self) -> u32 {
+        let number = self.number();
+        let folded = (number >> 64) as u64 ^ ((number << 64) >> 64) as u64;
+        (folded.wrapping_mul(0x9e37_79b9_7f4a_7c15) >> 32) as u32
+    }
+
     /// The bytes of the name.
     pub fn as_bytes(&self) -> &[u8]
         ensures value { result.now ≡ self.now }

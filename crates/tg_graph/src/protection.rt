@@ -17,7 +17,9 @@ use crate::right_sets::{Right, Rights};
 use crate::row::Row;
 use crate::row_maps;
 use crate::rules::{Refusal, Rule, RuleFault};
+use crate::shared_names::{Hint, SharedNames};
 use crate::shared_row::SharedRow;
+use crate::targets::shared_with;
 use bitflags::Flags;
 use indexmap::IndexMap;
 use std::alloc::{AllocError, Global};
@@ -32,6 +34,9 @@ use std::marker::Model;
 #[derive(Drop)]
 pub struct Graph {
     pub(crate) rows: IndexMap<Name, SharedRow>,
+    // Names of vertices by position, which rows share. They may be those of fewer vertices, and
+    // decide no answer.
+    pub(crate) names: Option<SharedNames>,
     // The position of the source of the edge that was added last, which the next one mostly has
     // too. It decides no answer.
     source: usize,
@@ -57,6 +62,7 @@ fn widen(
     x: Name,
     y: Name,
     rights: Rights,
+    hint: Hint,
 ) -> Result<(), AllocError>
     requires named { IsNamed rights }
     requires known { is_known rows.old.entries x ≡ true }
@@ -66,7 +72,7 @@ fn widen(
     ensures room { spare rows.new ≡ spare rows.old }
 {
     match rows.get_mut(&x) {
-        Some(row) => row.add(y, rights),
+        Some(row) => row.add(y, rights, hint),
         None => Ok(()),
     }
 }
@@ -127,13 +133,27 @@ impl Rows for Graph {
 }
 
 impl Graph {
+    // The number of a name among the shared names, where it is found among them. It is mostly the
+    // position of the vertex.
+    fn shared_number(&self, name: Name) -> Option<usize> {
+        match &self.names {
+            Some(names) => names.find(name),
+            None => None,
+        }
+    }
+
     // The graph that has these rows.
-    pub(crate) fn of_rows(rows: IndexMap<Name, SharedRow>, alloc: Global) -> Graph
+    pub(crate) fn of_rows(
+        rows: IndexMap<Name, SharedRow>,
+        names: Option<SharedNames>,
+        alloc: Global,
+    ) -> Graph
         requires { IsGraph rows.entries }
         ensures { result ≡ rows.entries }
     {
         Graph {
             rows,
+            names,
             source: 0,
             alloc,
         }
@@ -156,7 +176,7 @@ impl Graph {
     pub fn new(alloc: Global) -> Graph
         ensures { result ≡ [] }
     {
-        Graph::of_rows(IndexMap::new(alloc), alloc)
+        Graph::of_rows(IndexMap::new(alloc), None, alloc)
     }
 
     /// How many vertices there are.
@@ -172,14 +192,17 @@ impl Graph {
     pub fn knows(&self, name: Name) -> bool
         ensures { result ≡ has_vertex (graph_of self.now) name }
     {
-        self.rows.contains_key(&name)
+        self.position(name).is_some()
     }
 
     /// The position of a vertex, or `None` for a name that is no vertex.
     pub fn position(&self, name: Name) -> Option<usize>
         ensures { result ≡ position (bytes_eq name) (keys_of self.now) }
     {
-        self.rows.get_index_of(&name)
+        match self.shared_number(name) {
+            Some(number) if row_maps::stands_at(&self.rows, name, number) => Some(number),
+            _ => self.rows.get_index_of(&name),
+        }
     }
 
     /// The vertex at a position, or `None` past the last.
@@ -208,13 +231,25 @@ impl Graph {
             (graph_of self.new ≡ with_rights (graph_of self.old) x y rights) }
         ensures err { OnErr result (self.new ≡ self.old) }
     {
-        widen(&mut self.rows, x, y, rights)?;
+        let number = self.position(y).unwrap_or(0);
+        let hint = Hint {
+            names: self.names.as_ref(),
+            number,
+        };
+        widen(&mut self.rows, x, y, rights, hint)?;
         Ok(())
     }
 
-    // Adds an edge out of the vertex x, which stands at the position, if there is none, and says
-    // whether there was none.
-    fn join(&mut self, source: usize, x: Name, y: Name, rights: Rights) -> Result<bool, AllocError>
+    // Adds an edge out of the vertex x, which stands at the position, to the vertex y, which may
+    // stand at the other, if there is none, and says whether there was none.
+    fn join(
+        &mut self,
+        source: usize,
+        target: usize,
+        x: Name,
+        y: Name,
+        rights: Rights,
+    ) -> Result<bool, AllocError>
         requires label { IsLabel rights }
         requires source { slice_get (keys_of self.old) source ≡ Some x }
         requires target { has_vertex (graph_of self.old) y ≡ true }
@@ -231,7 +266,11 @@ impl Graph {
         let Some(row) = self.rows.get_index_mut(source) else {
             return Ok(false);
         };
-        let added = row.add_new(y, rights)?;
+        let hint = Hint {
+            names: self.names.as_ref(),
+            number: target,
+        };
+        let added = row.add_new(y, rights, hint)?;
         Ok(added)
     }
 
@@ -264,7 +303,11 @@ impl Graph {
         let _ = n.as_bytes();
         let row = SharedRow::new(self.alloc)?;
         self.rows.reserve(1)?;
-        widen(&mut self.rows, x, n, rights)?;
+        let hint = Hint {
+            names: self.names.as_ref(),
+            number: self.rows.len(),
+        };
+        widen(&mut self.rows, x, n, rights, hint)?;
         row_maps::put(&mut self.rows, n, row);
         Ok(())
     }
@@ -324,11 +367,21 @@ impl Graph {
         }
     }
 
-    // Whether a name is a vertex, looked for at a position first. That one decides no answer.
-    fn knows_near(&self, guess: usize, name: Name) -> bool
-        ensures { result ≡ has_vertex (graph_of self.now) name }
+    // Shares the names of all vertices with the rows to come, where a target's name is not shared and
+    // there are twice as many vertices as such names. A refusal is none: shared names save memory.
+    fn share_names(&mut self, target: usize)
+        ensures { self.new ≡ self.old }
     {
-        self.position_near(guess, name).is_some()
+        let shared = match &self.names {
+            Some(names) => names.len(),
+            None => 0,
+        };
+        if target < shared || self.rows.len() / 2 < shared {
+            return;
+        }
+        if let Ok(names) = row_maps::names_of(self.alloc, &self.rows) {
+            self.names = Some(names);
+        }
     }
 
     // Why an edge from x to y with no rights is not added.
@@ -354,13 +407,14 @@ impl Graph {
         };
         // A text of all pairs has a vertex's targets in the order of the vertices.
         let next_target = self.row_len(source);
-        if !self.knows_near(next_target, y) {
+        let Some(target) = self.position_near(next_target, y) else {
             return Err(EdgeFault::Unknown(y));
-        }
+        };
         if rights.is_empty() {
             return Err(self.fault_of_no_rights(x, y));
         }
-        if self.join(source, x, y, rights)? {
+        self.share_names(target);
+        if self.join(source, target, x, y, rights)? {
             self.source = source;
             Ok(())
         } else {
@@ -407,7 +461,8 @@ impl Graph {
         ensures { IfOk result (λ copy. copy ≡ self.now) }
     {
         let rows = row_maps::shared(&self.rows)?;
-        Ok(Graph::of_rows(rows, self.alloc))
+        let names = shared_with(self.names.as_ref())?;
+        Ok(Graph::of_rows(rows, names, self.alloc))
     }
 
     /// A copy that shares nothing with this graph, for another thread: neither of them then touches
@@ -415,8 +470,9 @@ impl Graph {
     pub fn copy_unshared(&self) -> Result<Graph, AllocError>
         ensures { IfOk result (λ copy. copy ≡ self.now) }
     {
-        let rows = row_maps::unshared(self.alloc, &self.rows)?;
-        Ok(Graph::of_rows(rows, self.alloc))
+        let names = Some(row_maps::names_of(self.alloc, &self.rows)?);
+        let rows = row_maps::unshared(self.alloc, &self.rows, names.as_ref())?;
+        Ok(Graph::of_rows(rows, names, self.alloc))
     }
 
     /// Takes over the vertices at some positions of another graph, in turn, each with its row: into

@@ -4,16 +4,19 @@ ghost use Rattle.std.specs.Map.{lookup};
 ghost use Rattle.tg_graph.specs.Sets.{IsNamed};
 ghost use Rattle.tg_graph.specs.Rows.{label_in, IsLabel, IsRow, Puts, Adds, TakesAway, IsPlaceOf, IsGapFor, AreBelow, AreAbove};
 
+use crate::edge_list::EdgeList;
 use crate::names::Name;
 use crate::right_sets::Rights;
+use crate::shared_names::{Hint, SharedNames};
 use bitflags::Flags;
 use std::alloc::{AllocError, Global};
+use std::cmp::Ordering;
 use std::marker::Model;
 
 /// The edges out of one vertex, in name order of their targets.
 #[derive(Drop)]
 pub struct Row {
-    edges: Vec<(Name, Rights)>,
+    edges: EdgeList,
     // The place behind the edge that was put in last, and whether that one went behind the one put
     // in before it, as the next then mostly does. They decide no answer.
     next: usize,
@@ -28,9 +31,9 @@ impl Model for Row {
 
     ghost use Rattle.tg_graph.specs.Rows.{IsRow};
 
-    ghost view = { λ r. r.edges.items };
+    ghost view = { λ r. r.edges };
 
-    ghost invariant = { λ r. IsRow r.edges.items };
+    ghost invariant = { λ r. IsRow r.edges };
 }
 
 impl Clone for Row {
@@ -40,7 +43,7 @@ impl Clone for Row {
 
     fn clone(&self) -> Result<Row, AllocError> {
         Ok(Row {
-            edges: Vec::from_slice(*self.edges.allocator(), self.edges.as_slice())?,
+            edges: self.edges.clone()?,
             next: self.next,
             in_turn: self.in_turn,
         })
@@ -53,10 +56,21 @@ impl Row {
         ensures { result ≡ [] }
     {
         Row {
-            edges: Vec::new(alloc),
+            edges: EdgeList::new(alloc, None),
             next: 0,
             in_turn: true,
         }
+    }
+
+    /// The same edges, which share these names with others.
+    pub fn moved_to(&self, alloc: Global, names: Option<&SharedNames>) -> Result<Row, AllocError>
+        ensures { IfOk result (λ row. row ≡ self.now) }
+    {
+        Ok(Row {
+            edges: self.edges.moved_to(alloc, names)?,
+            next: self.next,
+            in_turn: self.in_turn,
+        })
     }
 
     /// How many edges there are.
@@ -71,7 +85,7 @@ impl Row {
         ensures value { result ≡ slice_get self.now position }
         ensures row { IsRow self.now }
     {
-        self.edges.get(position).copied()
+        self.edges.at(position)
     }
 
     /// Where the edge to y is, or where it would go.
@@ -80,7 +94,17 @@ impl Row {
         ensures absent { IfErr result (IsGapFor self.now y) }
         ensures row { IsRow self.now }
     {
-        self.edges.binary_search_by_key(&y, |&(target, _)| target)
+        let mut low = 0;
+        let mut high = self.edges.len();
+        while low < high {
+            let middle = low + (high - low) / 2;
+            match self.edges.target(middle).cmp(&y) {
+                Ordering::Less => low = middle + 1,
+                Ordering::Greater => high = middle,
+                Ordering::Equal => return Ok(middle),
+            }
+        }
+        Err(low)
     }
 
     // Whether each target in front of the place is below y.
@@ -91,7 +115,7 @@ impl Row {
         if place == 0 {
             return true;
         }
-        self.edges[place - 1].0.cmp(&y).is_lt()
+        self.edges.target(place - 1).cmp(&y).is_lt()
     }
 
     // Whether each target from the place on is above y.
@@ -102,7 +126,7 @@ impl Row {
         if place == self.edges.len() {
             return true;
         }
-        self.edges[place].0.cmp(&y).is_gt()
+        self.edges.target(place).cmp(&y).is_gt()
     }
 
     // Whether the place is a gap for an edge to y.
@@ -135,7 +159,7 @@ impl Row {
         ensures found { lookup (bytes_eq y) self.now ≡ Some result }
         ensures label { IsLabel result }
     {
-        self.edges[place].1
+        self.edges.label(place)
     }
 
     /// The label of the edge to a vertex.
@@ -156,20 +180,26 @@ impl Row {
         ensures puts { Puts self.old self.new y (Some label) }
         ensures row { IsRow self.new }
     {
-        self.edges[place] = (y, label);
+        self.edges.set_label(place, label);
     }
 
     /// Puts an edge to y in, for which the place is a gap.
-    pub fn insert(&mut self, place: usize, y: Name, label: Rights) -> Result<(), AllocError>
+    pub fn insert(
+        &mut self,
+        place: usize,
+        y: Name,
+        label: Rights,
+        hint: Hint,
+    ) -> Result<(), AllocError>
         requires place { IsGapFor self.old y place }
         requires label { IsLabel label }
         ensures puts { OnOk result (Puts self.old self.new y (Some label)) }
         ensures err { OnErr result (self.new ≡ self.old) }
         ensures row { IsRow self.new }
     {
-        self.edges.insert(place, (y, label))?;
+        self.edges.insert(place, (y, label), hint)?;
         self.in_turn = place == self.next;
-        self.next = place + 1;
+        self.next = place.saturating_add(1);
         Ok(())
     }
 
@@ -183,7 +213,7 @@ impl Row {
     }
 
     /// Adds rights to the label of the edge to a vertex.
-    pub fn add(&mut self, y: Name, rights: Rights) -> Result<(), AllocError>
+    pub fn add(&mut self, y: Name, rights: Rights, hint: Hint) -> Result<(), AllocError>
         requires { IsNamed rights }
         ensures adds { OnOk result (Adds self.old self.new y rights) }
         ensures err { OnErr result (self.new ≡ self.old) }
@@ -200,7 +230,7 @@ impl Row {
                 self.write(place, y, label);
                 Ok(())
             }
-            Err(place) => self.insert(place, y, rights),
+            Err(place) => self.insert(place, y, rights, hint),
         }
     }
 

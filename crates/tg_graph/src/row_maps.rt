@@ -9,6 +9,7 @@ ghost use Rattle.tg_graph.specs.Drafts.{entries_at};
 ghost use Rattle.tg_graph.specs.TakenRows.{entry_of};
 
 use crate::names::Name;
+use crate::shared_names::SharedNames;
 use crate::shared_row::SharedRow;
 use indexmap::IndexMap;
 use std::alloc::{AllocError, Global};
@@ -50,17 +51,30 @@ pub fn shared(rows: &IndexMap<Name, SharedRow>) -> Result<IndexMap<Name, SharedR
     Ok(copy)
 }
 
-/// The same rows, each copied.
+/// The names of the vertices, in their order.
+pub fn names_of(
+    alloc: Global,
+    rows: &IndexMap<Name, SharedRow>,
+) -> Result<SharedNames, AllocError> {
+    let mut names = Vec::with_capacity(alloc, rows.len())?;
+    for (n, _) in rows {
+        names.push(*n)?;
+    }
+    SharedNames::new(alloc, names)
+}
+
+/// The same rows, each copied, and with these names shared among them.
 pub fn unshared(
     alloc: Global,
     rows: &IndexMap<Name, SharedRow>,
+    names: Option<&SharedNames>,
 ) -> Result<IndexMap<Name, SharedRow>, AllocError>
     ensures { IfOk result (λ copy. copy.entries ≡ rows.now.entries) }
 {
     let mut copy = IndexMap::new(alloc);
     copy.reserve(rows.len())?;
     for (n, row) in rows {
-        copy.insert(*n, row.unshared(alloc)?)?;
+        copy.insert(*n, row.moved_to(alloc, names)?)?;
     }
     Ok(copy)
 }

@@ -7,6 +7,7 @@ ghost use Rattle.tg_graph.specs.Rows.{IsLabel, IsRow, is_target, Adds, TakesAway
 use crate::names::Name;
 use crate::right_sets::Rights;
 use crate::row::Row;
+use crate::shared_names::{Hint, SharedNames};
 use std::alloc::{AllocError, Global};
 use std::marker::Model;
 use std::sync::Arc;
@@ -49,11 +50,25 @@ impl SharedRow {
         })
     }
 
-    /// The same edges, shared with nobody.
+    /// The same edges in a row of their own.
     pub fn unshared(&self, alloc: Global) -> Result<SharedRow, AllocError>
         ensures { IfOk result (λ row. row ≡ self.now) }
     {
         let row = self.edges().clone()?;
+        Ok(SharedRow {
+            row: Arc::new(alloc, row)?,
+        })
+    }
+
+    /// The same edges, which share no more than these names with others.
+    pub fn moved_to(
+        &self,
+        alloc: Global,
+        names: Option<&SharedNames>,
+    ) -> Result<SharedRow, AllocError>
+        ensures { IfOk result (λ row. row ≡ self.now) }
+    {
+        let row = self.edges().moved_to(alloc, names)?;
         Ok(SharedRow {
             row: Arc::new(alloc, row)?,
         })
@@ -67,19 +82,19 @@ impl SharedRow {
     }
 
     /// Adds rights to the label of the edge to a vertex.
-    pub fn add(&mut self, y: Name, rights: Rights) -> Result<(), AllocError>
+    pub fn add(&mut self, y: Name, rights: Rights, hint: Hint) -> Result<(), AllocError>
         requires { IsNamed rights }
         ensures adds { OnOk result (Adds self.old self.new y rights) }
         ensures row { OnOk result (IsRow self.new) }
         ensures err { OnErr result (self.new ≡ self.old) }
     {
         let row = Arc::make_mut(&mut self.row)?;
-        row.add(y, rights)?;
+        row.add(y, rights, hint)?;
         Ok(())
     }
 
     /// Adds the edge to a vertex if there is none, and says whether there was none.
-    pub fn add_new(&mut self, y: Name, rights: Rights) -> Result<bool, AllocError>
+    pub fn add_new(&mut self, y: Name, rights: Rights, hint: Hint) -> Result<bool, AllocError>
         requires { IsLabel rights }
         ensures said { IfOk result (λ added. added ≡ not (is_target self.old y)) }
         ensures added { IfOk result
@@ -92,7 +107,7 @@ impl SharedRow {
             Ok(_) => Ok(false),
             Err(place) => {
                 let row = Arc::make_mut(&mut self.row)?;
-                row.insert(place, y, rights)?;
+                row.insert(place, y, rights, hint)?;
                 Ok(true)
             }
         }

@@ -5,13 +5,13 @@ use Rattle.tg_graph.proofs.Places.{row-remove, puts-remove}
 use Rattle.tg_graph.proofs.row.Row.cut.Goals as goal
 
 pub invariant_of-self : goal.invariant_of-self
-invariant_of-self c = subst IsRow (sym c.remove.ensures.items) (row-remove c.self.inside.edges.items c.args.y c.args.place c.self.invariant (subst (λ row. IsPlaceOf row c.args.y c.args.place) (sym c.self.view_is) c.requires))
+invariant_of-self c = subst IsRow (sym c.remove.ensures) (row-remove c.self.inside.edges c.args.y c.args.place c.self.invariant (subst (λ row. IsPlaceOf row c.args.y c.args.place) (sym c.self.view_is) c.requires))
 
 pub returns-clause-row : goal.returns-clause-row
-returns-clause-row c = subst IsRow (sym c.remove.ensures.items) (row-remove c.self.inside.edges.items c.args.y c.args.place c.self.invariant (subst (λ row. IsPlaceOf row c.args.y c.args.place) (sym c.self.view_is) c.requires))
+returns-clause-row c = subst IsRow (sym c.remove.ensures) (row-remove c.self.inside.edges c.args.y c.args.place c.self.invariant (subst (λ row. IsPlaceOf row c.args.y c.args.place) (sym c.self.view_is) c.requires))
 
 pub returns-clause-puts : goal.returns-clause-puts
 returns-clause-puts c v =
-    ap (lookup (bytes_eq v)) c.remove.ensures.items
-    ∙ puts-remove c.self.inside.edges.items c.args.y c.args.place c.self.invariant (subst (λ row. IsPlaceOf row c.args.y c.args.place) (sym c.self.view_is) c.requires) v
+    ap (lookup (bytes_eq v)) c.remove.ensures
+    ∙ puts-remove c.self.inside.edges c.args.y c.args.place c.self.invariant (subst (λ row. IsPlaceOf row c.args.y c.args.place) (sym c.self.view_is) c.requires) v
     ∙ ap (λ row. cond (bytes_eq c.args.y v) None (lookup (bytes_eq v) row)) c.self.view_is

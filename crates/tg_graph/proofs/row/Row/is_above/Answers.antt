@@ -7,5 +7,5 @@ use Rattle.tg_graph.proofs.row.Row.is_above.Goals as goal
 pub returns : goal.returns
 returns c t =
     subst (λ row. AreBelow row c.args.y c.args.place) c.self.view_is
-    (below_from_last c.self.inside.edges.items c.args.y (c.args.place - 1) c.index.result.now c.self.invariant.sorted
-    (omega (arith, ap length c.self.view_is)) c.index.ensures c.args.place (omega arith) (sym (c.is_lt.ensures ∙ ap is_lt c.cmp.ensures) ∙ t))
+    (below_from_last c.self.inside.edges c.args.y (c.args.place - 1) c.target.result c.self.invariant.sorted
+    (omega (arith, ap length c.self.view_is)) c.target.ensures c.args.place (omega arith) (sym (c.is_lt.ensures ∙ ap is_lt c.cmp.ensures) ∙ t))

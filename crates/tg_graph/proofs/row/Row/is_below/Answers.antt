@@ -7,5 +7,5 @@ use Rattle.tg_graph.proofs.row.Row.is_below.Goals as goal
 pub returns : goal.returns
 returns c t =
     subst (λ row. AreAbove row c.args.y c.args.place) c.self.view_is
-    (above_from_first c.self.inside.edges.items c.args.y c.args.place c.index.result.now c.self.invariant.sorted
-    (omega (arith, ap length c.self.view_is)) c.index.ensures (sym (c.is_gt.ensures ∙ ap is_gt c.cmp.ensures) ∙ t))
+    (above_from_first c.self.inside.edges c.args.y c.args.place c.target.result c.self.invariant.sorted
+    (omega (arith, ap length c.self.view_is)) c.target.ensures (sym (c.is_gt.ensures ∙ ap is_gt c.cmp.ensures) ∙ t))

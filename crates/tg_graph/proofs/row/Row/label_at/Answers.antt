@@ -1,5 +1,6 @@
-use Rattle.std.proofs.Common.{sym, ap, subst, ◌∙◌, Some, IfSome, bytes_eq}
+use Rattle.std.proofs.Common.{[], sym, ap, subst, ◌∙◌, Some, IfSome, bytes_eq}
 use Rattle.std.specs.Map.{lookup}
+use Rattle.tg_graph.specs.Sets.{nothing}
 use Rattle.tg_graph.specs.Rows.{IsPlaceOf, IsLabel}
 use Rattle.tg_graph.proofs.Places.{lookup-place}
 use Rattle.tg_graph.proofs.row.Row.label_at.Goals as goal
@@ -7,12 +8,12 @@ use Rattle.tg_graph.proofs.row.Row.label_at.Goals as goal
 pub returns-clause-found : goal.returns-clause-found
 returns-clause-found c =
     ap (lookup (bytes_eq c.args.y)) (sym c.self.view_is)
-    ∙ lookup-place c.self.inside.edges.items c.args.y c.args.place c.index.result.now c.self.invariant.sorted (subst (λ row. IsPlaceOf row c.args.y c.args.place) (sym c.self.view_is) c.requires)
-    ∙ ap (λ e. Some e.1) (sym c.index.ensures)
+    ∙ lookup-place c.self.inside.edges c.args.y c.args.place ([], nothing) c.self.invariant.sorted (subst (λ row. IsPlaceOf row c.args.y c.args.place) (sym c.self.view_is) c.requires)
+    ∙ ap Some (sym (c.label.ensures ([], nothing)))
 
 pub returns-clause-label : goal.returns-clause-label
 returns-clause-label c =
     subst (λ o. IfSome o IsLabel)
-    (lookup-place c.self.inside.edges.items c.args.y c.args.place c.index.result.now c.self.invariant.sorted (subst (λ row. IsPlaceOf row c.args.y c.args.place) (sym c.self.view_is) c.requires)
-    ∙ ap (λ e. Some e.1) (sym c.index.ensures))
+    (lookup-place c.self.inside.edges c.args.y c.args.place ([], nothing) c.self.invariant.sorted (subst (λ row. IsPlaceOf row c.args.y c.args.place) (sym c.self.view_is) c.requires)
+    ∙ ap Some (sym (c.label.ensures ([], nothing))))
     (c.self.invariant.labelled c.args.y)

@@ -1,0 +1,20 @@
+use Rattle.std.proofs.Common.{rules, ◌≡◌, ◌<◌, ◌≤◌, ◌+◌, [], Some, None, length, slice_get, List, ℕ, ◌∷◌, ◌++◌, map, get_or, set, sym, ap, ◌∙◌, subst, arith, refl}
+use Rattle.std.specs.List.{insert, remove}
+use Rattle.tg_graph.specs.EdgeLists.{number_of, label_on, named, edges_of, names_of, AreWithin, Extends}
+use Rattle.tg_graph.proofs.EdgeLists.{each-insert, each-remove, each-set, each-at, edges-extends, within-extends, named-is}
+use Rattle.std.specs.Option.{option_map}
+use Rattle.std.proofs.lemmas.Option.{slice_get-map}
+use Rattle.tg_graph.proofs.EdgeLists.{read_by_get}
+use Rattle.tg_graph.proofs.edge_list.EdgeList.at.Goals as goal
+
+pub returns : goal.returns
+returns c =
+    let names = names_of c.self.inside.targets in
+    let es = c.self.inside.edges.items in
+    let found : slice_get es c.args.place ≡ Some c.in_ok-edge.edge =
+    sym (c.copied.ensures ∙ read_by_get c.deref.result.now c.args.place c.get.result c.get.ensures.lookup ∙ ap (λ xs. slice_get xs c.args.place) c.deref.ensures.value) ∙ c.in_ok-edge.was in
+    sym (
+    ap (λ xs. slice_get xs c.args.place) (sym c.self.view_is)
+    ∙ slice_get-map (named names) es c.args.place
+    ∙ ap (option_map (named names)) found
+    ∙ ap Some (named-is names c.in_ok-edge.edge c.in_ok-name.name c.label.result c.number.result (sym c.at.ensures ∙ c.in_ok-name.was) (sym c.number.ensures) (sym c.label.ensures)))

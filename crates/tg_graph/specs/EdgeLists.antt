@@ -1,0 +1,35 @@
+-- Edges whose targets are numbers of names.
+use Rattle.std.specs.Prelude.{◌≡◌, ℕ, ◌<◌, ◌/◌, ◌%◌, length, slice_index_or, List, [], ◌++◌, map, unwrap_or}
+use Rattle.std.specs.List.{AllByRecursion}
+use Rattle.tg_graph.specs.declared.right_sets.Rights.{Rights}
+use Rattle.tg_graph.specs.declared.targets.Targets.{Targets}
+use Rattle.tg_graph.specs.declared.edge_list.Edge.{Edge}
+use Rattle.tg_graph.specs.Graphs.{Name}
+use Rattle.tg_graph.specs.Rows.{Edges}
+
+-- the names by number: the shared ones, and then the list's own
+abbrev pub names_of : Targets → List Name
+names_of targets = unwrap_or targets.shared [] ++ targets.own.items
+
+-- an edge is one number: that of its target, with eight bits for the label behind it
+abbrev pub number_of : Edge → ℕ
+number_of edge = edge.bits / 256
+
+abbrev pub label_on : Edge → Rights
+label_on edge = record { 0 = edge.bits % 256 }
+
+-- the target and label of an edge
+abbrev pub named : List Name → Edge → Name × Rights
+named names edge = (slice_index_or names (number_of edge) [], label_on edge)
+
+abbrev pub edges_of : List Name → List Edge → Edges
+edges_of names edges = map (named names) edges
+
+-- the number of each edge is that of a name
+abbrev pub AreWithin : List Name → List Edge → Type 0
+AreWithin names edges = AllByRecursion (λ edge. number_of edge < length names) edges
+
+-- names come behind those that are there
+pub record Extends (old new : List Name) : Type 0 where
+  pub more : List Name
+  pub behind : new ≡ old ++ more
