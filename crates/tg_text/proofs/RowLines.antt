@@ -1,10 +1,10 @@
 -- The lines of a row, and of the edges to all vertices.
-use Rattle.std.proofs.Common.{◌≡◌, ℕ, suc, ◌+◌, ◌-◌, ◌≤◌, ◌<◌, take, length, Bool, true, false, cond, ◌||◌, List, [], ◌∷◌, ◌++◌, Ordering, Option, Some, None, unwrap_or, MatchOption, refl, sym, ap, subst, ◌∙◌, true≢false, arith, bytes_eq, nat_cmp}
+use Rattle.std.proofs.Common.{◌≡◌, ℕ, suc, ◌+◌, ◌-◌, ◌≤◌, ◌<◌, take, length, Bool, true, false, cond, ◌||◌, List, [], ◌∷◌, ◌++◌, Ordering, Option, Some, None, unwrap_or, MatchOption, refl, sym, ap, subst, ◌∙◌, true≢false, arith, append_assoc, bytes_eq, codes, eqb, nat_cmp}
 use Rattle.std.specs.declared.cmp.Ordering.TheVariants.{Less, Equal, Greater}
 use Rattle.std.specs.Cmp.Lexicographic.{slice_cmp, nat_list_cmp_total, texts_ties}
 use Rattle.std.specs.Ordering.{is_eq, ordering_reverse}
 use Rattle.std.proofs.lemmas.List.{take_more}
-use Rattle.std.proofs.lemmas.Bool.{or_right}
+use Rattle.std.proofs.lemmas.Bool.{or_right, ne_eqb}
 use Rattle.std.proofs.lemmas.Option.{slice_get_within, get_or_from_slice_get, slice_get-get_or, none-some}
 use Rattle.std.specs.List.{slice_get, flat_map, position, position_from}
 use Rattle.std.specs.List.Sorted.{IsStrictlySortedBy}
@@ -15,8 +15,9 @@ use Rattle.tg_graph.specs.declared.right_sets.Rights.{Rights}
 use Rattle.tg_graph.specs.Graphs.{Name}
 use Rattle.tg_graph.proofs.Rows.{same_bytes}
 use Rattle.tg_graph.specs.Sets.{nothing}
-use Rattle.tg_graph.specs.Rows.{Edges, Entries, label_in, row_number}
-use Rattle.tg_text.specs.Canonical.{edge_line}
+use Rattle.tg_graph.specs.Rows.{Edges, Entries, IsLabel, label_in, row_number}
+use Rattle.tg_text.specs.Canonical.{edge_end, edge_front, edge_line, line_of}
+use Rattle.tg_text.specs.Spelling.{rights_text, spaced}
 use Rattle.tg_text.proofs.NameOrder.{Strict, Above, among, absent, first, reversed, above_above, same_name-refl}
 
 -- ---- a row among all vertices
@@ -96,6 +97,13 @@ row-found u es = subst (FoundAt u 0 es) (sym (position_from-zero (bytes_eq u) (k
 -- ---- the lines of one row
 abbrev pub edge_of : Name → Name × Rights → List ℕ
 edge_of u e = edge_line u e.0 e.1
+
+-- a line begins with what is the same for each edge from u
+pub edge-parts : (u : Name) (e : Name × Rights) → IsLabel e.1 → edge_front u ++ edge_end e.0 e.1 ≡ edge_of u e
+edge-parts u e label =
+    let some : eqb e.1.0 0 ≡ false = ne_eqb e.1.0 0 (let more = label.some in λ none. omega arith) in
+    let whole : edge_of u e ≡ line_of (codes "edge" ∷ u ∷ e.0 ∷ rights_text e.1 ∷ []) = rw some refl in
+    sym (whole ∙ ap (λ bs. codes "edge" ++ 32 ∷ bs) (append_assoc u (32 ∷ spaced (e.0 ∷ rights_text e.1 ∷ [])) (10 ∷ [])))
 
 -- ---- elements by their places
 pub take_one : {X : Type 0} (xs : List X) (i : ℕ) (x : X) → slice_get xs i ≡ Some x → take (i + 1) xs ≡ take i xs ++ x ∷ []

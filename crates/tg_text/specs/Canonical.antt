@@ -34,6 +34,14 @@ vertex_line v = line_of (codes "vertex" ∷ v ∷ [])
 abbrev pub edge_line : Name → Name → Rights → List ℕ
 edge_line u v label = if is_empty_set label then [] else line_of (codes "edge" ∷ u ∷ v ∷ rights_text label ∷ [])
 
+-- what the line of each edge from u begins with
+abbrev pub edge_front : Name → List ℕ
+edge_front u = spaced (codes "edge" ∷ u ∷ [])
+
+-- what stands behind that in the line of the edge to v
+abbrev pub edge_end : Name → Rights → List ℕ
+edge_end v label = 32 ∷ line_of (v ∷ rights_text label ∷ [])
+
 -- the lines of the edges from u to those of the vertices to which there is one
 abbrev pub row_text : ProtectionGraph → List Name → Name → List ℕ
 row_text g vs u = flat_map (λ v. edge_line u v (label_between g u v)) vs

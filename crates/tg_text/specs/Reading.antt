@@ -60,6 +60,6 @@ abbrev pub fault_on_line : LineFault → ℕ → TextFault
 fault_on_line (line.Kind kind) n = At n kind
 fault_on_line line.Memory n = Memory
 
--- What stands in a line, seen by view: nothing where it is skipped.
-abbrev pub content_of : List ℕ → Result (Option (List ℕ)) TextKind
-content_of line = if nat_lt most_line_bytes (length line) then Err LineTooLong else (if is_skipped (words_of line) then Ok None else Ok (Some line))
+-- the words of a line: nothing where it is skipped
+abbrev pub content_of : List ℕ → Result (Option (List (List ℕ))) TextKind
+content_of line = if nat_lt most_line_bytes (length line) then Err LineTooLong else (if is_skipped (words_of line) then Ok None else Ok (Some (words_of line)))

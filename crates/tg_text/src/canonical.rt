@@ -1,10 +1,10 @@
 //! Graphs as canonical text.
-ghost use Rattle.std.specs.Prelude.{◌≡◌, ◌<◌, ◌∷◌, [], ◌++◌, IfOk, OnOk, vec_len, vec_capacity};
+ghost use Rattle.std.specs.Prelude.{◌≡◌, ◌+◌, ◌<◌, ◌≤◌, ◌∷◌, [], ◌++◌, length, IfOk, OnOk, vec_len, vec_capacity};
 ghost use Rattle.std.specs.List.{flat_map, list_all};
 ghost use Rattle.tg_graph.specs.GraphOf.{graph_of};
-ghost use Rattle.tg_graph.specs.Rows.{IsGraph, IsLabel, row_number};
+ghost use Rattle.tg_graph.specs.Rows.{IsGraph, row_number};
 ghost use Rattle.tg_text.specs.Versions.{has_letters};
-ghost use Rattle.tg_text.specs.Canonical.{canonical_text, edge_line, in_name_order, letters_suffice, row_text, version_for, version_line, vertex_line};
+ghost use Rattle.tg_text.specs.Canonical.{canonical_text, edge_end, edge_front, in_name_order, letters_suffice, row_text, version_for, version_line, vertex_line};
 
 use crate::spelling::{put, put_name, put_rights};
 use crate::versions::Version;
@@ -17,8 +17,14 @@ const VERSION_LINE: usize = 10;
 // As many bytes as the line of a vertex has at most, with its line feed.
 const LONGEST_VERTEX_LINE: usize = 24;
 
+// As many bytes as the line of an edge has at most up to the name of its source.
+const LONGEST_EDGE_FRONT: usize = 21;
+
+// As many bytes as the line of an edge has at most behind that name, with its line feed.
+const LONGEST_EDGE_END: usize = 26;
+
 // As many bytes as the line of an edge has at most, with its line feed.
-const LONGEST_EDGE_LINE: usize = 47;
+const LONGEST_EDGE_LINE: usize = LONGEST_EDGE_FRONT + LONGEST_EDGE_END;
 
 /// The names of the vertices of a graph in name order, each once. The error is want of memory.
 pub fn names_in_order(alloc: Global, graph: &Graph) -> Result<Vec<Name>, AllocError>
@@ -82,7 +88,9 @@ fn version_for(graph: &Graph, names: &[Name]) -> Version
 // Appends a line feed, for which there is room.
 fn end_line(text: &mut Vec<u8>)
     requires { vec_len text.old < vec_capacity text.old }
-    ensures { text.new.items ≡ text.old.items ++ 10 ∷ [] }
+    ensures items { text.new.items ≡ text.old.items ++ 10 ∷ [] }
+    ensures len { vec_len text.new ≡ vec_len text.old + 1 }
+    ensures capacity { vec_capacity text.old ≤ vec_capacity text.new }
 {
     text.push_reserved(b'\n');
 }
@@ -123,46 +131,77 @@ fn append_vertices(text: &mut Vec<u8>, names: &[Name]) -> Result<(), AllocError>
     Ok(())
 }
 
-// Appends the line of an edge.
-fn append_edge(text: &mut Vec<u8>, source: Name, edge: (Name, Rights)) -> Result<(), AllocError>
-    requires { IsLabel edge.1 }
-    ensures { OnOk result (text.new.items ≡ text.old.items ++ edge_line source edge.0 edge.1) }
+// Makes the bytes those with which the line of each edge out of a vertex begins.
+fn make_front(front: &mut Vec<u8>, source: Name)
+    requires { LONGEST_EDGE_FRONT ≤ vec_capacity front.old }
+    ensures items { front.new.items ≡ edge_front source }
+    ensures len { vec_len front.new ≤ LONGEST_EDGE_FRONT }
+    ensures capacity { vec_capacity front.old ≤ vec_capacity front.new }
+{
+    front.clear();
+    put(front, b"edge");
+    put_name(front, source);
+}
+
+// Appends the line of an edge that begins with this front.
+fn append_edge(text: &mut Vec<u8>, front: &[u8], edge: (Name, Rights))
+    requires { vec_len text.old + length front.now + LONGEST_EDGE_END ≤ vec_capacity text.old }
+    ensures items { text.new.items ≡ text.old.items ++ (front.now ++ edge_end edge.0 edge.1) }
+    ensures len { vec_len text.new ≤ vec_len text.old + length front.now + LONGEST_EDGE_END }
+    ensures capacity { vec_capacity text.old ≤ vec_capacity text.new }
 {
     let (target, label) = edge;
-    text.reserve(LONGEST_EDGE_LINE)?;
-    put(text, b"edge");
-    put_name(text, source);
+    put(text, front);
     put_name(text, target);
     put_rights(text, label);
     end_line(text);
-    Ok(())
 }
 
-// Appends the lines of the edges out of one vertex.
-fn append_row(text: &mut Vec<u8>, graph: &Graph, source: Name) -> Result<(), AllocError>
-    requires { IsGraph graph.now }
+// Appends the lines of the edges out of one vertex, which begin with this front. Room for all of
+// them is asked for at once.
+fn append_row(
+    text: &mut Vec<u8>,
+    graph: &Graph,
+    source: Name,
+    front: &[u8],
+) -> Result<(), AllocError>
+    requires graph { IsGraph graph.now }
+    requires front { front.now ≡ edge_front source }
+    requires short { length front.now ≤ LONGEST_EDGE_FRONT }
     ensures { OnOk result (text.new.items ≡ text.old.items
         ++ row_text (graph_of graph.now) (in_name_order (graph_of graph.now).vertices) source) }
 {
     let Some(position) = graph.position(source) else {
         return Ok(());
     };
-    for place in 0..graph.row_len(position) {
+    let count = graph.row_len(position);
+    let Some(room) = count.checked_mul(LONGEST_EDGE_LINE) else {
+        return Err(AllocError);
+    };
+    text.reserve(room)?;
+    for place in 0..count {
         if let Some(edge) = graph.row_at(position, place) {
-            append_edge(text, source, edge)?;
+            append_edge(text, front, edge);
         }
     }
     Ok(())
 }
 
 // Appends the lines of the edges out of vertices.
-fn append_rows(text: &mut Vec<u8>, graph: &Graph, sources: &[Name]) -> Result<(), AllocError>
+fn append_rows(
+    alloc: Global,
+    text: &mut Vec<u8>,
+    graph: &Graph,
+    sources: &[Name],
+) -> Result<(), AllocError>
     requires { IsGraph graph.now }
     ensures { OnOk result (text.new.items ≡ text.old.items
         ++ flat_map (row_text (graph_of graph.now) (in_name_order (graph_of graph.now).vertices)) sources.now) }
 {
+    let mut front = Vec::with_capacity(alloc, LONGEST_EDGE_FRONT)?;
     for source in sources {
-        append_row(text, graph, *source)?;
+        make_front(&mut front, *source);
+        append_row(text, graph, *source, &front)?;
     }
     Ok(())
 }
@@ -177,6 +216,6 @@ pub fn write_graph(alloc: Global, graph: &Graph) -> Result<Vec<u8>, AllocError>
     let mut text = Vec::new(alloc);
     append_version(&mut text, version_for(graph, &names))?;
     append_vertices(&mut text, &names)?;
-    append_rows(&mut text, graph, &names)?;
+    append_rows(alloc, &mut text, graph, &names)?;
     Ok(text)
 }

@@ -1,5 +1,5 @@
 //! The text of a graph.
-ghost use Rattle.std.specs.Prelude.{⊤, ◌≡◌, ◌<◌, false};
+ghost use Rattle.std.specs.Prelude.{⊤, ◌≡◌, ◌<◌, ◌∷◌, false};
 ghost use Rattle.tg_graph.specs.Sets.{IsNamed, is_empty_set};
 ghost use Rattle.tg_graph.specs.GraphOf.{graph_of};
 ghost use Rattle.tg_text.specs.Lines.{words_of};
@@ -8,7 +8,6 @@ ghost use Rattle.tg_text.specs.Versions.{version_of};
 ghost use Rattle.tg_text.specs.GraphText.{GraphSoFar, version_item, vertex_item, edge_item, graph_item, graph_text, with_new_vertex, with_new_edge};
 
 use crate::faults::{LineFault, TextFault, TextKind};
-use crate::lines::cut_word;
 use crate::reading::{Items, read_lines};
 use crate::versions::{LAST_VERSION, Version};
 use crate::words::{edge_rights_at, header_number, name_at, one_word, three_words};
@@ -86,13 +85,13 @@ fn version_of(begun: Option<Version>) -> Version
 }
 
 // The version that the words of a line name: the first line may name one, and no other.
-fn version_item(begun: Option<Version>, words: &[u8]) -> Result<Version, TextKind>
-    ensures { result ≡ version_item begun (words_of words.now) }
+fn version_item(begun: Option<Version>, first: &[u8], rest: &[u8]) -> Result<Version, TextKind>
+    ensures { result ≡ version_item begun (first.now ∷ words_of rest.now) }
 {
     if begun.is_some() {
         return Err(TextKind::BadWord);
     }
-    let number = header_number(b"version", LAST_VERSION, words)?;
+    let number = header_number(b"version", LAST_VERSION, first, rest)?;
     Ok(Version::numbered(number))
 }
 
@@ -106,22 +105,19 @@ impl Items for GraphItems {
     ghost IsSound = { λ _. ⊤ };
 
     #[tactic(auto, unfolding(crate::specs::GraphText::graph_item))]
-    fn add(&mut self, _line: usize, words: &[u8]) -> Result<(), LineFault> {
-        let Some((word, rest)) = cut_word(words) else {
-            return Err(LineFault::Kind(TextKind::BadWord));
-        };
+    fn add(&mut self, _line: usize, first: &[u8], rest: &[u8]) -> Result<(), LineFault> {
         let version = version_of(self.begun);
-        if word == b"vertex".as_slice() {
+        if first == b"vertex".as_slice() {
             add_vertex_line(&mut self.graph, version, rest)?;
             self.begun = Some(version);
             return Ok(());
         }
-        if word == b"edge".as_slice() {
+        if first == b"edge".as_slice() {
             add_edge_line(&mut self.graph, version, rest)?;
             self.begun = Some(version);
             return Ok(());
         }
-        self.begun = Some(version_item(self.begun, words)?);
+        self.begun = Some(version_item(self.begun, first, rest)?);
         Ok(())
     }
 }

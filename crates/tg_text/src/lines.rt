@@ -2,7 +2,7 @@
 ghost use Rattle.std.specs.Prelude.{◌≡◌, ◌<◌, ◌≤◌, ◌∷◌, ◌++◌, [], nat_lt, true, false, take, drop, length, MatchOption, IfSome};
 ghost use Rattle.tg_text.specs.Lines.{lines_of, words_of, is_blank, begins_with_word, begins_with_hash};
 ghost use Rattle.tg_text.specs.Reading.{Sees, content_of};
-ghost use Rattle.std.specs.Option.{option_copied};
+ghost use Rattle.std.specs.Option.{option_map};
 
 use crate::faults::TextKind;
 use crate::limits::MOST_LINE_BYTES;
@@ -45,14 +45,14 @@ fn blanks(bytes: &[u8]) -> usize
     bytes.len()
 }
 
-// The length of the word at the front.
+// The length of the word at the front. Its first byte is no blank, so the search begins behind it.
 fn word_len(bytes: &[u8]) -> usize
     requires { begins_with_word bytes.now ≡ true }
     ensures some { 0 < result }
     ensures within { result ≤ length bytes.now }
     ensures word { words_of bytes.now ≡ take result bytes.now ∷ words_of (drop result bytes.now) }
 {
-    for i in 0..bytes.len() {
+    for i in 1..bytes.len() {
         if is_blank(bytes[i]) {
             return i;
         }
@@ -87,15 +87,16 @@ fn begins_with_hash(word: &[u8]) -> bool
     }
 }
 
-// The bytes of the line, unless it is skipped.
-pub(crate) fn content(line: &[u8]) -> Result<Option<&[u8]>, TextKind>
-    ensures { Sees option_copied result (content_of line.now) }
+// The first word of the line and what stands behind it, unless the line is skipped.
+pub(crate) fn content(line: &[u8]) -> Result<Option<(&[u8], &[u8])>, TextKind>
+    ensures { Sees (option_map (λ cut. cut.0.now ∷ words_of cut.1.now)) result
+        (content_of line.now) }
 {
     if line.len() > MOST_LINE_BYTES {
         return Err(TextKind::LineTooLong);
     }
     match cut_word(line) {
-        Some((word, _)) if !begins_with_hash(word) => Ok(Some(line)),
+        Some((first, rest)) if !begins_with_hash(first) => Ok(Some((first, rest))),
         _ => Ok(None),
     }
 }

@@ -1,5 +1,5 @@
 //! Reading a text line by line, up to the first fault.
-ghost use Rattle.std.specs.Prelude.{◌≡◌, ◌≤◌, ℕ, List, Result, IfOk, OnOk, length};
+ghost use Rattle.std.specs.Prelude.{◌≡◌, ◌≤◌, ℕ, List, Result, ◌∷◌, IfOk, OnOk, length};
 ghost use Rattle.tg_text.specs.declared.faults.TextKind.{TextKind};
 ghost use Rattle.tg_text.specs.Lines.{lines_of, words_of};
 ghost use Rattle.tg_text.specs.Reading.{Makes, MakesAll, after_line, after_lines};
@@ -20,10 +20,10 @@ pub(crate) trait Items {
     // What holds of all that is made.
     ghost IsSound: { Self → Type 0 };
 
-    /// Adds what the words of a line that is not skipped say.
-    fn add(&mut self, line: usize, words: &[u8]) -> Result<(), LineFault>
+    /// Adds what a line that is not skipped says: its first word, and the words behind it.
+    fn add(&mut self, line: usize, first: &[u8], rest: &[u8]) -> Result<(), LineFault>
         requires { IsSound self.old }
-        ensures made { Makes (item line (made self.old) (words_of words.now)) result
+        ensures made { Makes (item line (made self.old) (first.now ∷ words_of rest.now)) result
             (made self.new) }
         ensures sound { OnOk result (IsSound self.new) };
 }
@@ -34,10 +34,10 @@ fn add_line<T: Items>(items: &mut T, line: usize, bytes: &[u8]) -> Result<(), Li
         (T.made items.new) }
     ensures sound { OnOk result (T.IsSound items.new) }
 {
-    let Some(words) = content(bytes)? else {
+    let Some((first, rest)) = content(bytes)? else {
         return Ok(());
     };
-    items.add(line, words)?;
+    items.add(line, first, rest)?;
     Ok(())
 }
 

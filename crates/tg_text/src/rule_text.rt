@@ -1,5 +1,5 @@
 //! The text of rules.
-ghost use Rattle.std.specs.Prelude.{◌≡◌, List, IfOk, OnOk};
+ghost use Rattle.std.specs.Prelude.{◌≡◌, ◌∷◌, List, IfOk, OnOk};
 ghost use Rattle.tg_graph.specs.Sets.{IsNamed};
 ghost use Rattle.tg_graph.specs.Rules.{rights_of};
 ghost use Rattle.tg_text.specs.declared.rule_text.RuleLine.{RuleLine};
@@ -49,34 +49,32 @@ fn three_names(bytes: &[u8]) -> Result<(Name, Name, Name, Rights), TextKind>
     Ok((x, y, z, rights))
 }
 
-// The rule that words write.
+// The rule that words write: the first, and those behind it.
 #[tactic(auto, unfolding(crate::specs::RuleText::rule_of_words))]
-pub(crate) fn rule_of_words(bytes: &[u8]) -> Result<Rule, TextKind>
-    ensures value { result ≡ rule_of_words (words_of bytes.now) }
+pub(crate) fn rule_of_words(first: &[u8], rest: &[u8]) -> Result<Rule, TextKind>
+    ensures value { result ≡ rule_of_words (first.now ∷ words_of rest.now) }
     ensures named { IfOk result (λ rule. IsNamed (rights_of rule)) }
 {
-    let Some((word, rest)) = cut_word(bytes) else {
-        return Err(TextKind::BadWord);
-    };
-    if word == b"take".as_slice() {
+    if first == b"take".as_slice() {
         let (x, y, z, rights) = three_names(rest)?;
         return Ok(Rule::Take { x, y, z, rights });
     }
-    if word == b"grant".as_slice() {
+    if first == b"grant".as_slice() {
         let (x, y, z, rights) = three_names(rest)?;
         return Ok(Rule::Grant { x, y, z, rights });
     }
-    if word == b"create".as_slice() {
+    if first == b"create".as_slice() {
         let (x, n, rights) = two_names(rest)?;
         return Ok(Rule::Create { x, n, rights });
     }
-    if word == b"remove".as_slice() {
+    if first == b"remove".as_slice() {
         let (x, y, rights) = two_names(rest)?;
         return Ok(Rule::Remove { x, y, rights });
     }
     Err(TextKind::BadWord)
 }
 
+#[tactic(auto, unfolding(crate::specs::RuleText::rule_of_words))]
 /// The rule that a line without its line feed writes, or the first thing wrong with the line:
 /// `LineTooLong` over `MOST_LINE_BYTES` bytes, `BadWord` where the first word names no rule,
 /// `WordCount`, `BadName`, `BadRights`.
@@ -89,18 +87,26 @@ pub fn read_rule(line: &[u8]) -> Result<Rule, TextKind>
     if line.len() > MOST_LINE_BYTES {
         return Err(TextKind::LineTooLong);
     }
-    rule_of_words(line)
+    let Some((first, rest)) = cut_word(line) else {
+        return Err(TextKind::BadWord);
+    };
+    rule_of_words(first, rest)
 }
 
 // Adds the rule of a line that is not skipped.
 #[tactic(auto, unfolding(crate::specs::RuleText::rule_line, crate::specs::RuleText::rule_item))]
-fn add_rule(rules: &mut Vec<RuleLine>, line: usize, words: &[u8]) -> Result<(), LineFault>
+fn add_rule(
+    rules: &mut Vec<RuleLine>,
+    line: usize,
+    first: &[u8],
+    rest: &[u8],
+) -> Result<(), LineFault>
     requires { AreNamedLines rules.old.items }
-    ensures made { Makes (rule_item line rules.old.items (words_of words.now)) result
+    ensures made { Makes (rule_item line rules.old.items (first.now ∷ words_of rest.now)) result
         rules.new.items }
     ensures named { OnOk result (AreNamedLines rules.new.items) }
 {
-    let rule = rule_of_words(words)?;
+    let rule = rule_of_words(first, rest)?;
     if rules.len() >= MOST_RULES {
         return Err(LineFault::Kind(TextKind::TooMany));
     }
@@ -117,8 +123,8 @@ impl Items for Vec<RuleLine> {
 
     ghost IsSound = { λ rules. AreNamedLines rules.items };
 
-    fn add(&mut self, line: usize, words: &[u8]) -> Result<(), LineFault> {
-        add_rule(self, line, words)
+    fn add(&mut self, line: usize, first: &[u8], rest: &[u8]) -> Result<(), LineFault> {
+        add_rule(self, line, first, rest)
     }
 }
 

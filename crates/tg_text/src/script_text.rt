@@ -1,5 +1,5 @@
 //! The text of a script.
-ghost use Rattle.std.specs.Prelude.{◌≡◌, List, Ok, IfOk, OnOk};
+ghost use Rattle.std.specs.Prelude.{◌≡◌, ◌∷◌, List, Ok, IfOk, OnOk};
 ghost use Rattle.tg_text.specs.declared.script_text.Header.{Header};
 ghost use Rattle.tg_text.specs.declared.script_text.ScriptLine.{ScriptLine};
 ghost use Rattle.tg_text.specs.Limits.{most_events};
@@ -91,7 +91,7 @@ fn act_of_words(bytes: &[u8]) -> Result<Act, TextKind>
         let (right, x, y) = right_and_names(rest)?;
         return Ok(Act::Stage(Step::Share { right, x, y }));
     }
-    let rule = rule_of_words(bytes)?;
+    let rule = rule_of_words(word, rest)?;
     Ok(Act::Stage(Step::Do(rule)))
 }
 
@@ -115,14 +115,16 @@ fn seated(
 }
 
 #[tactic(auto, unfolding(crate::specs::ScriptText::event_of_words))]
-fn event_of_words(line: usize, seats: u32, bytes: &[u8]) -> Result<ScriptLine, TextKind>
-    ensures value { result ≡ event_of_words line seats (words_of bytes.now) }
+fn event_of_words(
+    line: usize,
+    seats: u32,
+    first: &[u8],
+    rest: &[u8],
+) -> Result<ScriptLine, TextKind>
+    ensures value { result ≡ event_of_words line seats (first.now ∷ words_of rest.now) }
     ensures named { IfOk result (λ event. IsNamedAct event.act) }
 {
-    let Some((word, rest)) = cut_word(bytes) else {
-        return Err(TextKind::BadWord);
-    };
-    seated(line, number_up_to(seats, word), act_of_words(rest))
+    seated(line, number_up_to(seats, first), act_of_words(rest))
 }
 
 // Adds an event, if there is room for one more.
@@ -160,14 +162,15 @@ fn add_event(
     lines: &mut Vec<ScriptLine>,
     seats: u32,
     line: usize,
-    words: &[u8],
+    first: &[u8],
+    rest: &[u8],
 ) -> Result<(), LineFault>
     requires { AreNamedEvents lines.old.items }
-    ensures made { Makes (event_item line seats lines.old.items (words_of words.now)) result
-        lines.new.items }
+    ensures made { Makes (event_item line seats lines.old.items (first.now ∷ words_of rest.now))
+        result lines.new.items }
     ensures named { OnOk result (AreNamedEvents lines.new.items) }
 {
-    match event_of_words(line, seats, words) {
+    match event_of_words(line, seats, first, rest) {
         Ok(ScriptLine { line, seat, act }) => {
             push_event(lines, line, seat, act)?;
             Ok(())
@@ -193,16 +196,16 @@ impl Items for ScriptItems {
     ghost IsSound = { λ script. AreNamedEvents script.lines.items };
 
     #[tactic(auto, unfolding(crate::specs::ScriptText::script_item))]
-    fn add(&mut self, line: usize, words: &[u8]) -> Result<(), LineFault> {
+    fn add(&mut self, line: usize, first: &[u8], rest: &[u8]) -> Result<(), LineFault> {
         match self.header {
             Header::Nothing => {
-                self.header = Header::Seats(header_number(b"seats", MOST_SEATS, words)?);
+                self.header = Header::Seats(header_number(b"seats", MOST_SEATS, first, rest)?);
             },
             Header::Seats(seats) => {
-                let cells = header_number(b"cells", MOST_CELLS as u32, words)?;
+                let cells = header_number(b"cells", MOST_CELLS as u32, first, rest)?;
                 self.header = Header::Whole { seats, cells };
             },
-            Header::Whole { seats, .. } => add_event(&mut self.lines, seats, line, words)?,
+            Header::Whole { seats, .. } => add_event(&mut self.lines, seats, line, first, rest)?,
         }
         Ok(())
     }

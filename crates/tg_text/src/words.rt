@@ -2,7 +2,7 @@
 ghost use Rattle.std.specs.Prelude.{◌≡◌, ◌<◌, ◌≤◌, ◌∷◌, [], ◌+◌, ◌*◌, length, IfOk, MatchResult, Ok, Err};
 ghost use Rattle.tg_graph.specs.Sets.{IsNamed};
 ghost use Rattle.tg_text.specs.Lines.{words_of};
-ghost use Rattle.tg_text.specs.Words.{no_words, one_word, three_words, four_words, name_at, rights_at, right_at, number_up_to, number_of, with_digits, is_digit, header_number};
+ghost use Rattle.tg_text.specs.Words.{no_words, one_word, three_words, four_words, name_at, rights_at, right_at, number_up_to, number_of, with_digits, header_number};
 ghost use Rattle.tg_text.specs.GraphText.{edge_rights_at};
 ghost use Rattle.tg_text.specs.Reading.{Sees};
 
@@ -104,12 +104,6 @@ pub(crate) fn right_at(word: &[u8]) -> Result<Right, TextKind>
     }
 }
 
-fn is_digit(byte: u8) -> bool
-    ensures { result ≡ is_digit byte }
-{
-    b'0' <= byte && byte <= b'9'
-}
-
 // The number that digits write, at most four of them.
 fn with_digits(digits: &[u8]) -> Option<u32>
     requires { length digits.now ≤ 4 }
@@ -117,7 +111,7 @@ fn with_digits(digits: &[u8]) -> Option<u32>
 {
     let mut number = 0;
     for byte in digits {
-        if !is_digit(*byte) {
+        if !byte.is_ascii_digit() {
             return None;
         }
         number = 10 * number + u32::from(*byte - b'0');
@@ -144,16 +138,19 @@ pub(crate) fn number_up_to(limit: u32, word: &[u8]) -> Result<u32, TextKind>
     }
 }
 
-// The number in a header line, whose first word is the keyword.
+// The number in a header line, if its first word is the keyword.
 #[tactic(auto, unfolding(crate::specs::Words::header_number))]
-pub(crate) fn header_number(keyword: &[u8], limit: u32, bytes: &[u8]) -> Result<u32, TextKind>
-    ensures { result ≡ header_number keyword.now limit (words_of bytes.now) }
+pub(crate) fn header_number(
+    keyword: &[u8],
+    limit: u32,
+    first: &[u8],
+    rest: &[u8],
+) -> Result<u32, TextKind>
+    ensures { result ≡ header_number keyword.now limit (first.now ∷ words_of rest.now) }
 {
-    match cut_word(bytes) {
-        Some((word, rest)) if word == keyword => {
-            let number = one_word(rest)?;
-            number_up_to(limit, number)
-        },
-        _ => Err(TextKind::BadWord),
+    if first != keyword {
+        return Err(TextKind::BadWord);
     }
+    let number = one_word(rest)?;
+    number_up_to(limit, number)
 }
