@@ -7,8 +7,10 @@ took, and for how many times as much. A time of a few milliseconds says little.
 """
 import argparse
 import ctypes
+import itertools
 import os
 import random
+import re
 import subprocess
 import sys
 import tempfile
@@ -25,6 +27,40 @@ def even(count, edges):
     step = count * count // edges
     targets = ((i, j) for i in range(count) for j in range(i * step // count, count, step))
     return vertices(count) + "".join(f"edge v{i} v{j} {'tgrwe'[(3 * i + j) % 5]}\n" for i, j in targets)
+
+
+def shuffled(graph, seed=19):
+    """The same graph, its edges in random order."""
+    lines = graph.splitlines(True)
+    edges = [line for line in lines if line.startswith("edge")]
+    random.Random(seed).shuffle(edges)
+    return "".join(line for line in lines if not line.startswith("edge")) + "".join(edges)
+
+
+def falling(graph):
+    """The same graph, its edges from the last to the first."""
+    lines = graph.splitlines(True)
+    edges = [line for line in lines if line.startswith("edge")]
+    return "".join(line for line in lines if not line.startswith("edge")) + "".join(reversed(edges))
+
+
+def colliding(count):
+    """As many names that the hash of the index map puts into one group of places, which it has for 512."""
+    low, factor, start = 2**64 - 1, 0x9E3779B97F4A7C15, 0x243F6A8885A308D3 + 16
+    found = []
+    for letters in itertools.product("abcdefghijklmnopqrstuvwxyz", repeat=5):
+        name = "".join(letters) + "_on"
+        product = (int.from_bytes(name.encode(), "little") ^ start) * factor
+        folded = (product ^ product >> 64) & low
+        if (folded ^ folded >> 32) & 511 == 3:
+            found.append(name)
+            if len(found) == count:
+                return found
+
+
+def with_names(graph, names):
+    """The same graph with other names: names[i] for v{i}."""
+    return re.sub(r"\bv([0-9]+)\b", lambda number: names[int(number[1])], graph)
 
 
 def sparse(count, edges, seed=11):
@@ -81,6 +117,11 @@ def workloads(count):
     yield "rules on standard input", 65536, "rules", star(count) + "rules\n" + rules(count, 65536), None, []
     yield "apply", 65536, "rules", star(count), rules(count, 65536), ["apply"]
     yield "check", MANY, "edges", edges, None, ["check"]
+    yield "check in random order", MANY, "edges", shuffled(edges), None, ["check"]
+    yield "check from last to first", MANY, "edges", falling(edges), None, ["check"]
+    collided = with_names(edges, colliding(count))
+    yield "check of names that collide", MANY, "edges", collided, None, ["check"]
+    yield "the same in random order", MANY, "edges", shuffled(collided), None, ["check"]
     yield "islands", MANY, "edges", edges, None, ["islands"]
     yield "islands of one vertex", count, "islands", chain(count, "r"), None, ["islands"]
     yield "share", MANY, "edges", edges, None, ["share", "r", "v0", last]
