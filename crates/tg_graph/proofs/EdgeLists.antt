@@ -1,5 +1,5 @@
 -- Lists of edges whose targets are numbers.
-use Rattle.std.proofs.Common.{◌≡◌, ℕ, zero, suc, ◌<◌, ◌≤◌, ◌+◌, ◌/◌, ◌%◌, List, [], ◌∷◌, ◌++◌, length, map, get_or, set, take, Some, slice_get, Option, None, Bor, sym, ap, ◌∙◌, subst, arith, add-one, refl}
+use Rattle.std.proofs.Common.{◌≡◌, ℕ, zero, suc, ◌<◌, ◌≤◌, ◌+◌, List, [], ◌∷◌, length, get_or, set, take, Some, slice_get, Option, None, Bor, sym, ap, ◌∙◌, arith, add-one, refl}
 use Rattle.std.specs.List.{insert, remove, AllByRecursion}
 use Rattle.std.specs.Option.{option_map}
 use Rattle.std.specs.Slice.{IsGetResult}
@@ -8,7 +8,6 @@ use Rattle.std.proofs.lemmas.Option.{get_or_from_slice_get, slice_get_within, sl
 use Rattle.tg_graph.specs.declared.right_sets.Rights.{Rights}
 use Rattle.tg_graph.specs.declared.edge_list.Edge.{Edge}
 use Rattle.tg_graph.specs.Graphs.{Name}
-use Rattle.tg_graph.specs.Rows.{Edges}
 use Rattle.tg_graph.specs.EdgeLists.{number_of, label_on, named, edges_of, AreWithin, Extends}
 
 -- what `get` reads, as the list's own reading

@@ -19,3 +19,4 @@ pub mod DraftLaws
 pub mod NameNumbers
 pub mod TakenOver
 pub mod Positions
+pub mod NameBytes

@@ -22,7 +22,7 @@ above : (a b : ℕ) → b < a → nat_cmp a b ≡ Greater
 above a b h = sym (nat_cmp_is a b Greater h)
 
 -- ---- the numbers that bytes spell
-abbrev AreBytes : List ℕ → Type 0
+abbrev pub AreBytes : List ℕ → Type 0
 AreBytes = AllByRecursion (λ b. b < 256)
 
 spells_less : (a b : ℕ) (us vs : List ℕ) → length us ≡ length vs → AreBytes us → a < b → big_endian a us < big_endian b vs

@@ -84,7 +84,7 @@ fn widen(
 {
     let hint = Hint {
         names: base.names.as_ref(),
-        number: base.position(y).unwrap_or(0),
+        number: None,
     };
     match rows.get_mut(&x) {
         Some(row) => row.add(y, rights, hint),

@@ -175,7 +175,11 @@ impl EdgeList {
         for place in 0..self.edges.len() {
             let number = self.edges[place].number();
             if let Some(edge) = self.at(place) {
-                list.put(place, edge, Hint { names, number })?;
+                let hint = Hint {
+                    names,
+                    number: Some(number),
+                };
+                list.put(place, edge, hint)?;
             }
         }
         Ok(list)

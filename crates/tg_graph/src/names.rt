@@ -1,6 +1,7 @@
 //! Names of vertices.
 ghost use Rattle.std.specs.Prelude.{◌≡◌, ◌≤◌, ◌<◌, ◌+◌, Some, None, [], ◌∷◌, refl, length, bytes_eq, drop, decimal};
 ghost use Rattle.std.specs.Ordering.{nat_cmp};
+ghost use Rattle.std.specs.Slice.Scan.{big_endian};
 ghost use Rattle.std.specs.Cmp.{partial_equiv_from_equiv};
 ghost use Rattle.std.specs.Cmp.Lexicographic.{slice_cmp, nat_list_eq_equiv, nat_list_cmp_total, texts_ties, texts_po};
 ghost use Rattle.tg_graph.specs.NameFields.{equal_hash_alike};
@@ -68,16 +69,26 @@ fn first_bad(bytes: &[u8]) -> Option<usize>
     None
 }
 
-// The bytes, and zeros up to 16 bytes.
-fn padded(bytes: &[u8]) -> [u8; 16]
+// The number that the bytes spell, the first byte the highest.
+fn number_spelled(bytes: &[u8]) -> u128
     requires { length bytes.now ≤ 16 }
+    ensures { result ≡ big_endian 0 bytes.now }
+{
+    let mut number = 0;
+    for i in 0..bytes.len() {
+        number = number * 256 + u128::from(bytes[i]);
+    }
+    number
+}
+
+// The bytes, and zeros up to 16 bytes. They are put together in a register, not in memory.
+fn padded(bytes: &[u8]) -> [u8; 16]
+    requires some { 0 < length bytes.now }
+    requires within { length bytes.now ≤ 16 }
     ensures { result ≡ padded_to_16 bytes.now }
 {
-    let mut padded = [0; 16];
-    for i in 0..bytes.len() {
-        padded[i] = bytes[i];
-    }
-    padded
+    let zeros = 16 - bytes.len() as u32;
+    (number_spelled(bytes) << (8 * zeros)).to_be_bytes()
 }
 
 // Writes the number in decimal so that it ends with the text, and gives the place of its first

@@ -231,10 +231,9 @@ impl Graph {
             (graph_of self.new ≡ with_rights (graph_of self.old) x y rights) }
         ensures err { OnErr result (self.new ≡ self.old) }
     {
-        let number = self.position(y).unwrap_or(0);
         let hint = Hint {
             names: self.names.as_ref(),
-            number,
+            number: None,
         };
         widen(&mut self.rows, x, y, rights, hint)?;
         Ok(())
@@ -268,7 +267,7 @@ impl Graph {
         };
         let hint = Hint {
             names: self.names.as_ref(),
-            number: target,
+            number: Some(target),
         };
         let added = row.add_new(y, rights, hint)?;
         Ok(added)
@@ -305,7 +304,7 @@ impl Graph {
         self.rows.reserve(1)?;
         let hint = Hint {
             names: self.names.as_ref(),
-            number: self.rows.len(),
+            number: Some(self.rows.len()),
         };
         widen(&mut self.rows, x, n, rights, hint)?;
         row_maps::put(&mut self.rows, n, row);

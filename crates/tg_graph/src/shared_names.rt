@@ -152,6 +152,6 @@ impl SharedNames {
 pub struct Hint<'a> {
     /// The names, if there are such.
     pub names: Option<&'a SharedNames>,
-    /// The number that the name may have.
-    pub number: usize,
+    /// The number that the name may have. Without one it is looked for where it is wanted.
+    pub number: Option<usize>,
 }

@@ -114,16 +114,24 @@ impl Targets {
         Ok(number)
     }
 
-    /// A number of a name: that of the hint, if it is the name's, or else a new one.
+    // A number that the name may have: that of the hint, or else that among the shared names.
+    fn likely_number(&self, name: Name, hint: Hint) -> Option<usize> {
+        match (hint.number, &self.shared) {
+            (None, Some(names)) => names.find(name),
+            (number, _) => number,
+        }
+    }
+
+    /// A number of a name: the likely one, if it is the name's, or else a new one.
     pub fn number_for(&mut self, name: Name, hint: Hint) -> Result<usize, AllocError>
         ensures found { IfOk result
             (λ number. slice_get (names_of self.new) number ≡ Some name) }
         ensures kept { Extends (names_of self.old) (names_of self.new) }
     {
         self.take_names(hint)?;
-        if self.is_at(hint.number, name) {
-            return Ok(hint.number);
+        match self.likely_number(name, hint) {
+            Some(number) if self.is_at(number, name) => Ok(number),
+            _ => self.push(name),
         }
-        self.push(name)
     }
 }

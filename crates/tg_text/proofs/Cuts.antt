@@ -1,12 +1,13 @@
 -- The first line of a text, and the first word of a line.
-use Rattle.std.proofs.Common.{◌≡◌, refl, ap, ℕ, zero, suc, ◌<◌, ◌≤◌, true, false, not, eqb, List, [], ◌∷◌, take, drop, length, get_or, arith}
+use Rattle.std.proofs.Common.{◌≡◌, ◌∙◌, refl, ap, ℕ, zero, suc, ◌+◌, ◌-◌, ◌<◌, ◌≤◌, inl, inr, true, false, not, eqb, List, [], ◌∷◌, take, drop, length, get_or, arith}
 use Rattle.std.specs.List.{onto_first}
 use Rattle.std.proofs.lemmas.Bool.{ne_eqb, not-true}
-use Rattle.std.proofs.lemmas.List.{drop_more}
-use Rattle.tg_text.specs.Lines.{lines_of, words_of, is_blank, begins_with_word}
+use Rattle.std.proofs.lemmas.Bool.Decides.{leb_tells}
+use Rattle.std.proofs.lemmas.List.{drop_more, get_or-drop, get_or-take}
+use Rattle.tg_text.specs.Lines.{NoLineFeedBefore, lines_of, words_of, is_blank, begins_with_word}
 
 -- a line ends at the first line feed
-pub line_at : (text : List ℕ) (i : ℕ) → ((k : ℕ) → k < i → get_or text k 0 ≡ 10 → ⊥) → i < length text → get_or text i 0 ≡ 10 → lines_of text ≡ take i text ∷ lines_of (drop (suc i) text)
+pub line_at : (text : List ℕ) (i : ℕ) → NoLineFeedBefore text i → i < length text → get_or text i 0 ≡ 10 → lines_of text ≡ take i text ∷ lines_of (drop (suc i) text)
 line_at [] i others inside here = absurd (omega arith)
 line_at (b ∷ bs) zero others inside here = rw here refl
 line_at (b ∷ bs) (suc i) others inside here =
@@ -14,8 +15,17 @@ line_at (b ∷ bs) (suc i) others inside here =
     let rest = line_at bs i (λ k lt. others (suc k) (omega arith)) (omega arith) here in
     rw (other, rest) refl
 
+-- where no line feed stands in front of a place, and none among so many bytes behind it, none stands in front of their end
+pub none_further : (text : List ℕ) (i n : ℕ) → NoLineFeedBefore text i → NoLineFeedBefore (take n (drop i text)) n → NoLineFeedBefore text (i + n)
+none_further text i n front back k inside here = elim (leb_tells i k) [
+  | inl behind ↦
+      let place : i + (k - i) ≡ k = omega arith in
+      back (k - i) (omega arith) (get_or-take n (drop i text) (k - i) 0 (omega arith) ∙ get_or-drop i text (k - i) 0 ∙ ap (λ j. get_or text j 0) place ∙ here)
+  | inr before ↦ front k before.1 here
+]
+
 -- a text without a line feed is one line
-pub one_line : (text : List ℕ) → ((k : ℕ) → k < length text → get_or text k 0 ≡ 10 → ⊥) → 0 < length text → lines_of text ≡ text ∷ []
+pub one_line : (text : List ℕ) → NoLineFeedBefore text (length text) → 0 < length text → lines_of text ≡ text ∷ []
 one_line [] others some = absurd (omega arith)
 one_line (b ∷ []) others some = rw (ne_eqb b 10 (others 0 (omega arith))) refl
 one_line (b ∷ c ∷ bs) others some =

@@ -1,11 +1,15 @@
 -- The lines of a text, and the words of a line.
-use Rattle.std.specs.Prelude.{◌≡◌, refl, ℕ, Bool, true, false, ◌==◌, ◌||◌, not, List, [], ◌∷◌, codes, if◌then◌else◌}
+use Rattle.std.specs.Prelude.{◌≡◌, refl, ℕ, ◌<◌, Bool, true, false, ◌==◌, ◌||◌, not, List, [], ◌∷◌, get_or, codes, if◌then◌else◌}
 use Rattle.std.specs.List.{onto_first}
 
 -- what stands between line feeds; what follows the last one is a line if it is not empty
 abbrev pub lines_of : List ℕ → List (List ℕ)
 lines_of [] = []
 lines_of (b ∷ bs) = if b == 10 then [] ∷ lines_of bs else onto_first b (lines_of bs)
+
+-- no line feed stands in front of a place
+abbrev pub NoLineFeedBefore : List ℕ → ℕ → Type 0
+NoLineFeedBefore text place = (k : ℕ) → k < place → get_or text k 0 ≡ 10 → ⊥
 
 -- a space, a tab or a carriage return
 abbrev pub is_blank : ℕ → Bool

@@ -10,7 +10,7 @@ const LONG: [u8; 257] = [b'#'; 257];
 
 #[test]
 fn graph_faults(rt: HostRuntime) {
-    let rows: [(&[u8], usize, TextKind); 16] = [
+    let rows: [(&[u8], usize, TextKind); 22] = [
         (&LONG, 1, TextKind::LineTooLong),
         (b"node a\n", 1, TextKind::BadWord),
         (b"\xff a", 1, TextKind::BadWord),
@@ -35,6 +35,25 @@ fn graph_faults(rt: HostRuntime) {
             TextKind::DuplicateEdge,
         ),
         (b"vertex a\nvertex b\x0b\n", 2, TextKind::BadName),
+        // (line feeds about the ends of blocks of 16 bytes)
+        (b"#.............\nnode\n", 2, TextKind::BadWord),
+        (b"#..............\nnode\n", 2, TextKind::BadWord),
+        (b"#...............\nnode\n", 2, TextKind::BadWord),
+        (
+            b"#..............................\nnode\n",
+            2,
+            TextKind::BadWord,
+        ),
+        (
+            b"#...............................\nnode\n",
+            2,
+            TextKind::BadWord,
+        ),
+        (
+            b"\n\n\n\n\n\n\n\n\n\n\n\n\n\n\n\n\nnode\n",
+            18,
+            TextKind::BadWord,
+        ),
     ];
     for (text, line, kind) in rows {
         let fault = read_graph(rt.alloc(), text).err();

@@ -1,11 +1,41 @@
 //! Lines and words.
 ghost use Rattle.std.specs.Prelude.{◌≡◌, ◌<◌, ◌≤◌, ◌∷◌, ◌++◌, [], nat_lt, true, false, take, drop, length, MatchOption, IfSome};
-ghost use Rattle.tg_text.specs.Lines.{lines_of, words_of, is_blank, begins_with_word, begins_with_hash};
+ghost use Rattle.tg_text.specs.Lines.{NoLineFeedBefore, lines_of, words_of, is_blank, begins_with_word, begins_with_hash};
 ghost use Rattle.tg_text.specs.Reading.{Sees, content_of};
 ghost use Rattle.std.specs.Option.{option_map};
 
 use crate::faults::TextKind;
 use crate::limits::MOST_LINE_BYTES;
+
+// As many bytes as are looked at together for a line feed.
+const BLOCK: usize = 16;
+
+// Whether one of the bytes is a line feed. The loop goes on behind one, so that it is compiled to
+// few steps for many bytes.
+fn has_line_feed(bytes: &[u8]) -> bool
+    ensures { result ≡ false → NoLineFeedBefore bytes.now (length bytes.now) }
+{
+    let mut found = false;
+    for i in 0..bytes.len() {
+        found |= bytes[i] == b'\n';
+    }
+    found
+}
+
+// How many bytes the blocks at the front have that have no line feed.
+fn blocks_without_line_feed(text: &[u8]) -> usize
+    ensures within { result ≤ length text.now }
+    ensures none { NoLineFeedBefore text.now result }
+{
+    let mut clear = 0;
+    while text.len() - clear >= BLOCK {
+        if has_line_feed(&text[clear..clear + BLOCK]) {
+            break;
+        }
+        clear += BLOCK;
+    }
+    clear
+}
 
 /// The first line of a text without its line feed, and what stands behind it.
 ///
@@ -17,7 +47,7 @@ pub fn cut_line(text: &[u8]) -> (&[u8], &[u8])
     ensures joined { 0 < length result.1.now → text.now ≡ result.0.now ++ 10 ∷ result.1.now }
     ensures shorter { length result.1.now < length text.now }
 {
-    for i in 0..text.len() {
+    for i in blocks_without_line_feed(text)..text.len() {
         if text[i] == b'\n' {
             return (&text[..i], &text[i + 1..]);
         }

@@ -1,5 +1,5 @@
-use Rattle.std.proofs.Common.{◌≡◌, ℕ, ◌<◌, get_or}
+use Rattle.tg_text.specs.Lines.{NoLineFeedBefore}
 use Rattle.tg_text.proofs.lines.cut_line.Given as goal
 
 abbrev pub invariant-loop-i : goal.invariant-loop-i
-invariant-loop-i l = (k : ℕ) → k < l.i → get_or l.text k 0 ≡ 10 → ⊥
+invariant-loop-i l = NoLineFeedBefore l.text l.i

@@ -1,7 +1,6 @@
-use Rattle.std.proofs.Common.{rules, ◌≡◌, ◌<◌, ◌≤◌, ◌+◌, [], Some, None, length, slice_get, List, ℕ, ◌∷◌, ◌++◌, map, get_or, set, sym, ap, ◌∙◌, subst, arith, refl}
-use Rattle.std.specs.List.{insert, remove}
-use Rattle.tg_graph.specs.EdgeLists.{number_of, label_on, named, edges_of, names_of, AreWithin, Extends}
-use Rattle.tg_graph.proofs.EdgeLists.{each-insert, each-remove, each-set, each-at, edges-extends, within-extends, named-is}
+use Rattle.std.proofs.Common.{◌≡◌, Some, slice_get, sym, ap, ◌∙◌}
+use Rattle.tg_graph.specs.EdgeLists.{named, names_of}
+use Rattle.tg_graph.proofs.EdgeLists.{named-is}
 use Rattle.std.specs.Option.{option_map}
 use Rattle.std.proofs.lemmas.Option.{slice_get-map}
 use Rattle.tg_graph.proofs.EdgeLists.{read_by_get}

@@ -1,7 +1,7 @@
-use Rattle.std.proofs.Common.{rules, ◌≡◌, ◌<◌, ◌≤◌, ◌+◌, [], Some, None, length, slice_get, List, ℕ, ◌∷◌, ◌++◌, map, get_or, set, sym, ap, ◌∙◌, subst, arith, refl}
-use Rattle.std.specs.List.{insert, remove}
-use Rattle.tg_graph.specs.EdgeLists.{number_of, label_on, named, edges_of, names_of, AreWithin, Extends}
-use Rattle.tg_graph.proofs.EdgeLists.{each-insert, each-remove, each-set, each-at, edges-extends, within-extends, named-is}
+use Rattle.std.proofs.Common.{◌≡◌, ◌<◌, length, sym, ap, ◌∙◌, subst, arith}
+use Rattle.std.specs.List.{insert}
+use Rattle.tg_graph.specs.EdgeLists.{number_of, named, edges_of, names_of, AreWithin}
+use Rattle.tg_graph.proofs.EdgeLists.{each-insert, edges-extends, within-extends, named-is}
 use Rattle.indexmap.proofs.SetLemmas.{map-insert}
 use Rattle.std.proofs.lemmas.Option.{slice_get_within}
 use Rattle.tg_graph.proofs.Rows.{on_err_from}

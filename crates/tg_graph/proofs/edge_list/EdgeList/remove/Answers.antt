@@ -1,7 +1,6 @@
-use Rattle.std.proofs.Common.{rules, ◌≡◌, ◌<◌, ◌≤◌, ◌+◌, [], Some, None, length, slice_get, List, ℕ, ◌∷◌, ◌++◌, map, get_or, set, sym, ap, ◌∙◌, subst, arith, refl}
-use Rattle.std.specs.List.{insert, remove}
-use Rattle.tg_graph.specs.EdgeLists.{number_of, label_on, named, edges_of, names_of, AreWithin, Extends}
-use Rattle.tg_graph.proofs.EdgeLists.{each-insert, each-remove, each-set, each-at, edges-extends, within-extends, named-is}
+use Rattle.std.proofs.Common.{ap, ◌∙◌}
+use Rattle.std.specs.List.{remove}
+use Rattle.tg_graph.specs.EdgeLists.{named, edges_of, names_of}
 use Rattle.indexmap.proofs.SetLemmas.{map-remove}
 use Rattle.tg_graph.proofs.edge_list.EdgeList.remove.Goals as goal
 

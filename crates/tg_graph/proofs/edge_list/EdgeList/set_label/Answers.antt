@@ -1,7 +1,5 @@
-use Rattle.std.proofs.Common.{rules, ◌≡◌, ◌<◌, ◌≤◌, ◌+◌, [], Some, None, length, slice_get, List, ℕ, ◌∷◌, ◌++◌, map, get_or, set, sym, ap, ◌∙◌, subst, arith, refl}
-use Rattle.std.specs.List.{insert, remove}
-use Rattle.tg_graph.specs.EdgeLists.{number_of, label_on, named, edges_of, names_of, AreWithin, Extends}
-use Rattle.tg_graph.proofs.EdgeLists.{each-insert, each-remove, each-set, each-at, edges-extends, within-extends, named-is}
+use Rattle.std.proofs.Common.{◌≡◌, ◌<◌, [], length, List, ℕ, get_or, set, sym, ap, ◌∙◌, arith}
+use Rattle.tg_graph.specs.EdgeLists.{number_of, named, names_of}
 use Rattle.std.proofs.lemmas.List.{map-set, length-map, get_or-map}
 use Rattle.tg_graph.specs.declared.right_sets.Rights.{Rights}
 use Rattle.tg_graph.specs.Rows.{Edges}

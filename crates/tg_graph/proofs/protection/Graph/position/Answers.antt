@@ -1,4 +1,4 @@
-use Rattle.std.proofs.Common.{◌≡◌, Some, sym, ap, subst, ◌∙◌, bytes_eq, slice_get}
+use Rattle.std.proofs.Common.{sym, ap, subst, ◌∙◌, bytes_eq, slice_get}
 use Rattle.std.specs.List.{IsDistinct}
 use Rattle.std.specs.Map.{keys_of}
 use Rattle.tg_graph.specs.Rows.{Entries}

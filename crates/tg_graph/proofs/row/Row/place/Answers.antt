@@ -1,4 +1,4 @@
-use Rattle.std.proofs.Common.{◌≡◌, ◌<◌, ◌≤◌, ◌+◌, ◌-◌, ◌/◌, ℕ, length, arith, sym, ap, subst, refl, ◌∙◌}
+use Rattle.std.proofs.Common.{◌<◌, ◌+◌, ◌-◌, ◌/◌, ℕ, arith, sym, ap, subst, refl}
 use Rattle.std.specs.Ordering.{is_lt, is_gt}
 use Rattle.tg_graph.specs.Rows.{IsPlaceOf, IsGapFor}
 use Rattle.tg_graph.proofs.Places.{below_from_last, above_from_first, place_from_equal}
