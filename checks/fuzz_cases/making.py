@@ -37,7 +37,7 @@ class Maker:
         self.graph = Graph(names)
         self.new_names = chance.sample(NAMES + FRESH, chance.choice([1, 3, 10]))
         self.fresh = chance.choice([0.02, 0.05, 0.25])
-        dense = chance.choice([0.05, 0.2, 0.4, 0.8])
+        dense = chance.choice([0.05, 0.2, 0.4, 0.8, 1])
         labels = chance.choice([LETTERS, "tg", "rwe", "tgr", "tgrw", "gr", "tr", "tgad", "ad"])
         most = 4 if len(names) > 9 else len(names)
         for x in names:
@@ -123,11 +123,14 @@ class Maker:
         return "".join(line + "\n" for line in found).encode()
 
     def graph_text(self):
-        """The text of the graph, its lines in an order of their own."""
+        """The text of the graph, its edges in any order or in that of the vertex lines."""
         names = sorted(self.graph.names)
         pairs = sorted(pair for pair, rights in self.graph.edges.items() if rights)
         self.chance.shuffle(names)
-        self.chance.shuffle(pairs)
+        if self.chance.random() < 0.5:
+            self.chance.shuffle(pairs)
+        else:
+            pairs.sort(key=lambda pair: [names.index(name) for name in pair])
         edges = [["edge", x, y, self.shuffled(self.graph.rights(x, y))] for x, y in pairs]
         return self.text(self.version() + [["vertex", name] for name in names] + edges)
 

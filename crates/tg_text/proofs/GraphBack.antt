@@ -34,8 +34,9 @@ use Rattle.tg_text.specs.Spelling.{spaced, rights_text}
 use Rattle.tg_text.specs.Canonical.{canonical_text, can_write, edge_line, in_name_order, letters_suffice, line_of, name_cmp, row_text, version_line, vertex_line}
 use Rattle.tg_text.specs.RoundTrips.{in_order}
 use Rattle.tg_text.proofs.NameOrder.{Above, Strict, among, among-in_order, first, strict-in_order}
-use Rattle.tg_text.proofs.PlainWords.{IsPlainWord, lines-spaced, line-is, name_at-is, name_word, rights_word, word_from_test}
+use Rattle.tg_text.proofs.PlainWords.{IsPlainWord, lines-spaced, line-is, name_word, rights_word, word_from_test}
 use Rattle.tg_text.proofs.Labels.{all_among}
+use Rattle.tg_text.proofs.Steps.{name_from}
 use Rattle.tg_text.proofs.RuleBack.{rights_at-is, length-two, length-more}
 use Rattle.tg_graph.specs.Limits.{most_vertices}
 use Rattle.tg_text.specs.Limits.{most_line_bytes}
@@ -78,7 +79,7 @@ vertex-item version a v n e l begun same =
     let most = limit_of version in
     let room : nat_le most (length a.vertices) ≡ false = grind (arith, nat_tests) in
     ap (λ (w : Version). (name_at v >>= λ v. with_new_vertex w a v) >>= further w) same
-    ∙ ap (λ r. (r >>= λ v. with_new_vertex version a v) >>= further version) (name_at-is v n)
+    ∙ ap (λ r. (r >>= λ v. with_new_vertex version a v) >>= further version) (name_from v n)
     ∙ ap (λ b. (if b then Err DuplicateVertex else (if nat_le most (length a.vertices) then Err TooManyVertices else Ok (with_vertex a v))) >>= further version) e
     ∙ ap (λ b. (if b then Err TooManyVertices else Ok (with_vertex a v)) >>= further version) room
 
@@ -124,8 +125,8 @@ edge-item : (version : Version) (a : ProtectionGraph) (x y : Name) (s : Rights) 
 unfolding graph_item edge_item
 edge-item version a x y s p q n e letters k m f begun same =
     ap (λ (w : Version). (name_at x >>= λ x. name_at y >>= λ y. edge_rights_at w (rights_text s) >>= λ s. with_new_edge a x y s) >>= further w) same
-    ∙ ap (λ r. (r >>= λ x. name_at y >>= λ y. edge_rights_at version (rights_text s) >>= λ s. with_new_edge a x y s) >>= further version) (name_at-is x p)
-    ∙ ap (λ r. (r >>= λ y. edge_rights_at version (rights_text s) >>= λ s. with_new_edge a x y s) >>= further version) (name_at-is y q)
+    ∙ ap (λ r. (r >>= λ x. name_at y >>= λ y. edge_rights_at version (rights_text s) >>= λ s. with_new_edge a x y s) >>= further version) (name_from x p)
+    ∙ ap (λ r. (r >>= λ y. edge_rights_at version (rights_text s) >>= λ s. with_new_edge a x y s) >>= further version) (name_from y q)
     ∙ ap (λ r. ((r >>= λ s. if is_empty_set s || not (has_letters version s) then Err BadRights else Ok s) >>= λ s. with_new_edge a x y s) >>= further version) (rights_at-is s n)
     ∙ (λ i. ((if e i || not (letters i) then Err BadRights else Ok s) >>= λ s. with_new_edge a x y s) >>= further version)
     ∙ (λ i. (if not (k i && m i) then Err UnknownVertex else (if not (f i) then Err DuplicateEdge else Ok (with_rights a x y s))) >>= further version)

@@ -1,5 +1,5 @@
 -- Words written with single spaces, and lines that end in a line feed, are read as they were written.
-use Rattle.std.proofs.Common.{◌≡◌, ℕ, ◌+◌, ◌<◌, ◌≤◌, Bool, true, false, ◌&&◌, not, ◌==◌, nat_lt, List, [], ◌∷◌, ◌++◌, length, None, Some, Result, Ok, Err, refl, sym, ap, ◌∙◌, arith, if◌then◌else◌, is_ok}
+use Rattle.std.proofs.Common.{◌≡◌, ℕ, ◌+◌, ◌<◌, ◌≤◌, Bool, true, false, ◌&&◌, not, ◌==◌, nat_lt, List, [], ◌∷◌, ◌++◌, length, None, Some, Result, Ok, Err, refl, sym, ap, ◌∙◌, arith, if◌then◌else◌}
 use Rattle.std.specs.List.{AllByRecursion, list_all}
 use Rattle.std.proofs.lemmas.List.{append_assoc, append-nil}
 use Rattle.std.proofs.lemmas.Bool.{and_parts, not-true}
@@ -8,15 +8,14 @@ use Rattle.tg_graph.specs.declared.right_sets.Right.{Right}
 use Rattle.tg_graph.specs.declared.right_sets.Right.TheVariants.{T, G, R, W, E, A, D}
 use Rattle.tg_graph.specs.declared.right_sets.Rights.{Rights}
 use Rattle.tg_graph.specs.Graphs.{Name}
-use Rattle.tg_graph.specs.Names.{IsName, first_bad, fits_at, name_of, checked}
-use Rattle.tg_graph.specs.declared.names.NameFault.TheVariants.{Empty, TooLong}
+use Rattle.tg_graph.specs.Names.{IsName, first_bad, fits_at}
 use Rattle.tg_graph.specs.Sets.{member}
 use Rattle.tg_graph.specs.Letters.{letters_among, letters_of, letter_of, all_rights}
 use Rattle.tg_text.specs.declared.faults.TextKind.{TextKind}
-use Rattle.tg_text.specs.declared.faults.TextKind.TheVariants.{BadName, LineTooLong}
+use Rattle.tg_text.specs.declared.faults.TextKind.TheVariants.{LineTooLong}
 use Rattle.tg_text.specs.Lines.{lines_of, words_of, is_blank, begins_with_word, is_skipped}
 use Rattle.tg_text.specs.Reading.{after_line}
-use Rattle.tg_text.specs.Words.{Word, name_at}
+use Rattle.tg_text.specs.Words.{Word}
 use Rattle.tg_text.specs.Spelling.{spaced, or_dash, rights_text}
 use Rattle.tg_text.specs.Canonical.{line_of}
 use Rattle.tg_text.proofs.Letters.{length-letters}
@@ -95,6 +94,10 @@ name-plain k (b ∷ bs) e = by (fits_at k b) refl e (name-plain (k + 1) bs)
 pub name_word : (v : Name) → IsName v → IsPlainWord v
 name_word v n = record { some = n.some; plain = name-plain 0 v n.fit }
 
+-- a name that goes no further is the first word
+pub name_first : (v : Name) (rest : List ℕ) → IsName v → begins_with_word rest ≡ false → words_of (v ++ rest) ≡ v ∷ words_of rest
+name_first v rest n e = word-read v rest n.some (name-plain 0 v n.fit) e
+
 letter-plain : (right : Right) → is_plain (letter_of right) ≡ true
 letter-plain T = refl
 letter-plain G = refl
@@ -125,17 +128,6 @@ length-dash (b ∷ bs) h = h
 
 pub length-rights : (s : Rights) → length (rights_text s) ≤ 7
 length-rights s = length-dash (letters_of s) (length-letters s all_rights)
-
--- a name is read as it stands
-pub name_at-is : (v : Name) → IsName v → name_at v ≡ Ok v
-name_at-is v n = ap (λ r. if is_ok r then Ok v else Err BadName) (found v n.some n.within n.fit)
-  where
-    found : (v : Name) → 0 < length v → length v ≤ 16 → first_bad 0 v ≡ None → name_of v ≡ Ok v
-    found v l h e =
-        let some : (length v == 0) ≡ false = grind (arith, nat_tests) in
-        let within : nat_lt 16 (length v) ≡ false = grind (arith, nat_tests) in
-        ap (λ b. if b then Err Empty else (if nat_lt 16 (length v) then Err TooLong else checked v (first_bad 0 v))) some
-        ∙ ap (λ b. if b then Err TooLong else checked v (first_bad 0 v)) within ∙ ap (checked v) e
 
 -- a line that is not too long and not skipped, by its words
 pub line-is : {A : Type 0} (item : A → List Word → Result A TextKind) (a : A) (words : List Word) → AllByRecursion IsPlainWord words → length (spaced words) ≤ most_line_bytes → is_skipped words ≡ false

@@ -16,8 +16,9 @@ use Rattle.tg_text.specs.Reading.{◌>>=◌}
 use Rattle.tg_text.specs.Words.{Word, name_at, rights_at, value_or}
 use Rattle.tg_text.specs.RuleText.{two_names, three_names, rule_of_words, rule_of_line}
 use Rattle.tg_text.specs.Spelling.{rule_text, rule_words, rights_text, spaced}
-use Rattle.tg_text.proofs.PlainWords.{IsPlainWord, word_from_test, name_word, rights_word, words-spaced, name_at-is, length-rights}
+use Rattle.tg_text.proofs.PlainWords.{IsPlainWord, word_from_test, name_word, rights_word, words-spaced, length-rights}
 use Rattle.tg_text.proofs.RightsBack.{rights-back}
+use Rattle.tg_text.proofs.Steps.{name_from}
 use Rattle.tg_text.specs.Limits.{most_line_bytes}
 
 pub rights_at-is : (s : Rights) → IsNamed s → rights_at (rights_text s) ≡ Ok s
@@ -26,16 +27,16 @@ rights_at-is s n = ap (value_or BadRights) (rights-back s n)
 two_names-is : (x y : Name) (s : Rights) → IsName x → IsName y → IsNamed s → two_names (x ∷ y ∷ rights_text s ∷ []) ≡ Ok (x, y, s)
 unfolding two_names
 two_names-is x y s p q n =
-    ap (λ r. r >>= λ x. name_at y >>= λ y. rights_at (rights_text s) >>= λ s. Ok (x, y, s)) (name_at-is x p)
-    ∙ ap (λ r. r >>= λ y. rights_at (rights_text s) >>= λ s. Ok (x, y, s)) (name_at-is y q)
+    ap (λ r. r >>= λ x. name_at y >>= λ y. rights_at (rights_text s) >>= λ s. Ok (x, y, s)) (name_from x p)
+    ∙ ap (λ r. r >>= λ y. rights_at (rights_text s) >>= λ s. Ok (x, y, s)) (name_from y q)
     ∙ ap (λ r. r >>= λ s. Ok (x, y, s)) (rights_at-is s n)
 
 three_names-is : (x y z : Name) (s : Rights) → IsName x → IsName y → IsName z → IsNamed s → three_names (x ∷ y ∷ z ∷ rights_text s ∷ []) ≡ Ok (x, y, z, s)
 unfolding three_names
 three_names-is x y z s p q r n =
-    ap (λ r. r >>= λ x. name_at y >>= λ y. name_at z >>= λ z. rights_at (rights_text s) >>= λ s. Ok (x, y, z, s)) (name_at-is x p)
-    ∙ ap (λ r. r >>= λ y. name_at z >>= λ z. rights_at (rights_text s) >>= λ s. Ok (x, y, z, s)) (name_at-is y q)
-    ∙ ap (λ r. r >>= λ z. rights_at (rights_text s) >>= λ s. Ok (x, y, z, s)) (name_at-is z r)
+    ap (λ r. r >>= λ x. name_at y >>= λ y. name_at z >>= λ z. rights_at (rights_text s) >>= λ s. Ok (x, y, z, s)) (name_from x p)
+    ∙ ap (λ r. r >>= λ y. name_at z >>= λ z. rights_at (rights_text s) >>= λ s. Ok (x, y, z, s)) (name_from y q)
+    ∙ ap (λ r. r >>= λ z. rights_at (rights_text s) >>= λ s. Ok (x, y, z, s)) (name_from z r)
     ∙ ap (λ r. r >>= λ s. Ok (x, y, z, s)) (rights_at-is s n)
 
 pub words-back : (rule : Rule) → IsRule rule → rule_of_words (rule_words rule) ≡ Ok rule

@@ -10,7 +10,7 @@ const LONG: [u8; 257] = [b'#'; 257];
 
 #[test]
 fn graph_faults(rt: HostRuntime) {
-    let rows: [(&[u8], usize, TextKind); 22] = [
+    let rows: [(&[u8], usize, TextKind); 24] = [
         (&LONG, 1, TextKind::LineTooLong),
         (b"node a\n", 1, TextKind::BadWord),
         (b"\xff a", 1, TextKind::BadWord),
@@ -33,6 +33,17 @@ fn graph_faults(rt: HostRuntime) {
             b"vertex a\nvertex b\nedge a b r\nedge a b w\n",
             4,
             TextKind::DuplicateEdge,
+        ),
+        // (the same source once more, and a target whose name another one begins with)
+        (
+            b"vertex a\nvertex ab\nedge a a t\nedge a ab t\nedge a a r\n",
+            5,
+            TextKind::DuplicateEdge,
+        ),
+        (
+            b"vertex ab\nvertex ac\nedge ab ab t\nedge ab a t\n",
+            4,
+            TextKind::UnknownVertex,
         ),
         (b"vertex a\nvertex b\x0b\n", 2, TextKind::BadName),
         // (line feeds about the ends of blocks of 16 bytes)

@@ -8,6 +8,7 @@ ghost use Rattle.tg_text.specs.Versions.{version_of};
 ghost use Rattle.tg_text.specs.GraphText.{GraphSoFar, version_item, vertex_item, edge_item, graph_item, graph_text, with_new_vertex, with_new_edge};
 
 use crate::faults::{LineFault, TextFault, TextKind};
+use crate::likely_names::LastSource;
 use crate::reading::{Items, read_lines};
 use crate::versions::{LAST_VERSION, Version};
 use crate::words::{edge_rights_at, header_number, name_at, one_word, three_words};
@@ -54,13 +55,25 @@ fn add_vertex_line(graph: &mut Graph, version: Version, words: &[u8]) -> Result<
 }
 
 #[tactic(auto, unfolding(crate::specs::GraphText::edge_item))]
-fn add_edge_line(graph: &mut Graph, version: Version, words: &[u8]) -> Result<(), LineFault>
+fn add_edge_line(
+    graph: &mut Graph,
+    last: &mut LastSource,
+    version: Version,
+    words: &[u8],
+) -> Result<(), LineFault>
     ensures { Makes (edge_item version (graph_of graph.old) (words_of words.now)) result
         (graph_of graph.new) }
 {
-    let (source, target, letters) = three_words(words)?;
-    let x = name_at(source)?;
-    let y = name_at(target)?;
+    let (x, y, letters) = match last.likely_names(graph, words) {
+        Some((x, y, rest)) => (x, y, one_word(rest)?),
+        None => {
+            let (source, target, letters) = three_words(words)?;
+            let x = name_at(source)?;
+            let y = name_at(target)?;
+            last.go_on(graph, x);
+            (x, y, letters)
+        }
+    };
     let rights = edge_rights_at(version, letters)?;
     add_edge(graph, x, y, rights)?;
     Ok(())
@@ -72,6 +85,8 @@ fn add_edge_line(graph: &mut Graph, version: Version, words: &[u8]) -> Result<()
 pub(crate) struct GraphItems {
     begun: Option<Version>,
     graph: Graph,
+    // It decides no answer.
+    last: LastSource,
 }
 
 // The version of a text that begins with this one.
@@ -113,7 +128,7 @@ impl Items for GraphItems {
             return Ok(());
         }
         if first == b"edge".as_slice() {
-            add_edge_line(&mut self.graph, version, rest)?;
+            add_edge_line(&mut self.graph, &mut self.last, version, rest)?;
             self.begun = Some(version);
             return Ok(());
         }
@@ -139,6 +154,7 @@ pub fn read_graph(alloc: Global, text: &[u8]) -> Result<Graph, TextFault>
     let mut items = GraphItems {
         begun: None,
         graph: Graph::new(alloc),
+        last: LastSource::new(),
     };
     read_lines(&mut items, text)?;
     Ok(items.graph)

@@ -9,6 +9,7 @@ mod fault_tests;
 mod faults;
 mod graph_text;
 pub mod laws;
+mod likely_names;
 mod limits;
 mod lines;
 #[cfg(test)]

@@ -50,6 +50,23 @@ fn a_graph(rt: HostRuntime) -> Result<(), Fail> {
     Ok(())
 }
 
+// A source that comes again, with a target that is the next vertex and with one that is not; and
+// names that begin like one another.
+#[test]
+fn edges_in_turn_and_out_of_turn(rt: HostRuntime) -> Result<(), Fail> {
+    let graph = read_graph(
+        rt.alloc(),
+        b"vertex a\nvertex ab\nedge a a t\nedge a ab g\nedge ab ab r\nedge ab a w\n",
+    )?;
+    let a = Name::parse(b"a")?;
+    let ab = Name::parse(b"ab")?;
+    assert!(rt; graph.label(a, a) == Some(Rights::of(Right::T)));
+    assert!(rt; graph.label(a, ab) == Some(Rights::of(Right::G)));
+    assert!(rt; graph.label(ab, ab) == Some(Rights::of(Right::R)));
+    assert!(rt; graph.label(ab, a) == Some(Rights::of(Right::W)));
+    Ok(())
+}
+
 #[test]
 fn texts_without_items(rt: HostRuntime) -> Result<(), Fail> {
     assert!(rt; read_graph(rt.alloc(), b"")?.len() == 0);
