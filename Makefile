@@ -2,7 +2,7 @@
 # make examples   compares what each example prints with what is stored beside it
 # make pictures   draws the examples; wants Graphviz
 # make test       the merge gate: every proof from nothing, the wrong bodies, the tests, the program;
-#                 one to two hours on four processors
+#                 some two hours on four slow processors
 # make refusals   the memory tests with each request for memory refused in turn: seconds, once the
 #                 gate or rt test has built the tests
 # make man        the manual page
@@ -26,7 +26,7 @@ LESS_OF_CLUSTER = $(foreach kind,groups secrets pods services events,--without '
 .PHONY: build demo examples pictures test refusals man bench races hostile fuzz
 
 build:
-	@echo "Proving and building officer and the crates below it: six to twenty minutes on four processors from nothing, seconds after that."
+	@echo "Proving and building officer and the crates below it: about half an hour on four slow processors from nothing, seconds after that."
 	@log=$$(mktemp); (cd crates/officer && rt run < stdin) > $$log 2>&1 || { tail -n 20 $$log; rm -f $$log; exit 1; }; rm -f $$log
 
 show = echo "== officer $(1)"; $(OFFICER) $(1)
