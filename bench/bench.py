@@ -58,6 +58,19 @@ def colliding(count):
                 return found
 
 
+def in_name_order(graph):
+    """The same graph, its edges as the program writes them: by the names of source and target."""
+    lines = graph.splitlines(True)
+    edges = sorted((line for line in lines if line.startswith("edge")), key=str.split)
+    return "".join(line for line in lines if not line.startswith("edge")) + "".join(edges)
+
+
+def alike(count):
+    """As many names of 16 bytes, of which each 37 share the first 15."""
+    ends = itertools.product("_0123456789abcdefghijklmnopqrstuvwxyz", repeat=3)
+    return ["same_for_all_" + "".join(end) for end in itertools.islice(ends, count)]
+
+
 def with_names(graph, names):
     """The same graph with other names: names[i] for v{i}."""
     return re.sub(r"\bv([0-9]+)\b", lambda number: names[int(number[1])], graph)
@@ -119,6 +132,11 @@ def workloads(count):
     yield "check", MANY, "edges", edges, None, ["check"]
     yield "check in random order", MANY, "edges", shuffled(edges), None, ["check"]
     yield "check from last to first", MANY, "edges", falling(edges), None, ["check"]
+    yield "check in name order", MANY, "edges", in_name_order(edges), None, ["check"]
+    full = alike(count)
+    yield "check of names that share 15 bytes", MANY, "edges", with_names(edges, full), None, ["check"]
+    few = with_names(sparse(count, 4 * count), full)
+    yield "check of few edges and such names", 4 * count, "edges", few, None, ["check"]
     collided = with_names(edges, colliding(count))
     yield "check of names that collide", MANY, "edges", collided, None, ["check"]
     yield "the same in random order", MANY, "edges", shuffled(collided), None, ["check"]
