@@ -20,3 +20,6 @@ pub mod NameNumbers
 pub mod TakenOver
 pub mod Positions
 pub mod NameBytes
+pub mod NameFronts
+pub mod BuiltGraphs
+pub mod WaitingLabels

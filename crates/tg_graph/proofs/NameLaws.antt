@@ -1,5 +1,5 @@
 -- What is a name, and in which order names are.
-use Rattle.std.proofs.Common.{◌≡◌, ℕ, zero, suc, ◌+◌, ◌<◌, ◌≤◌, ◌⊎◌, inl, inr, Bool, true, false, List, [], ◌∷◌, ◌++◌, length, get_or, Option, None, Some, refl, sym, ap, ◌∙◌, ⊎_elim, true≢false, nat_le, arith, if◌then◌else◌, nat_cmp}
+use Rattle.std.proofs.Common.{◌≡◌, ℕ, zero, suc, ◌+◌, ◌<◌, ◌≤◌, ◌⊎◌, inl, inr, Bool, true, false, List, [], ◌∷◌, ◌++◌, length, get_or, Option, None, Some, refl, sym, ap, ◌∙◌, ⊎_elim, true≢false, nat_le, arith, add-one, lt-ltb, ◌==◌, ◌&&◌, ◌||◌, if◌then◌else◌, nat_cmp}
 use Rattle.std.specs.List.{AllByRecursion}
 use Rattle.std.specs.Bool.{Decides}
 use Rattle.std.specs.Ordering.{ordering_then}
@@ -9,8 +9,23 @@ use Rattle.std.proofs.lemmas.Bool.Decides.{nat_tests, Decides-eqb, Decides-ltb, 
 use Rattle.std.proofs.lemmas.Cmp.{nat_cmp_total, tied_itself}
 use Rattle.std.proofs.lemmas.List.Elements.{All-from_recursion, recursion_from_All}
 use Rattle.std.proofs.lemmas.Option.{none-some}
-use Rattle.tg_graph.specs.Names.{fits_at, first_bad}
+use Rattle.tg_graph.specs.Names.{AllFit, fits_at, first_bad}
 use Rattle.tg_graph.specs.Laws.{IsLetter, IsDigit, IsNameByte, NamesExactly, PrefixFirst, DifferenceDecides}
+
+-- ---- bytes that all fit
+inner : (k b : ℕ) → fits_at (suc k) b ≡ fits_at 1 b
+inner k b = ap (λ t. (nat_le 97 b && nat_le b 122) || (b == 95) || (t && nat_le 48 b && nat_le b 57)) (lt-ltb 0 (suc k) (omega arith))
+
+fit_on : (bytes : List ℕ) (k : ℕ) → AllFit bytes (length bytes) → first_bad (suc k) bytes ≡ None
+fit_on [] k h = refl
+fit_on (b ∷ bs) k h =
+    ap (λ c. if c then first_bad (suc k + 1) bs else Some (suc k)) (inner k b ∙ h 0 (omega arith))
+    ∙ ap (λ n. first_bad n bs) (add-one (suc k))
+    ∙ fit_on bs (suc k) (λ i l. h (suc i) (omega (arith, l)))
+
+pub all_fit-none : (bytes : List ℕ) → fits_at 0 (get_or bytes 0 0) ≡ true → AllFit bytes (length bytes) → first_bad 0 bytes ≡ None
+all_fit-none [] f h = refl
+all_fit-none (b ∷ bs) f h = ap (λ c. if c then first_bad 1 bs else Some 0) f ∙ fit_on bs 0 (λ i l. h (suc i) (omega (arith, l)))
 
 le_decides : (a b : ℕ) → Decides (nat_le a b) (a ≤ b)
 le_decides a b = elim (leb_tells a b) [
@@ -49,7 +64,7 @@ fits_from_byte k b (inl letter) f = letter_fits k b letter.0 letter.1
 fits_from_byte k b (inr (inl digit)) f = digit_fits k b (positive k (λ e. f e digit)) digit.0 digit.1
 fits_from_byte k b (inr (inr line)) f = line_fits k b line
 
-step_none : (b : Bool) (k : ℕ) (o : Option ℕ) → (if b then o else Some k) ≡ None → (b ≡ true) × (o ≡ None)
+pub step_none : (b : Bool) (k : ℕ) (o : Option ℕ) → (if b then o else Some k) ≡ None → (b ≡ true) × (o ≡ None)
 step_none true k o e = (refl, e)
 step_none false k o e = absurd (none-some k (sym e))
 

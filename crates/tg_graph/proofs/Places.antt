@@ -1,5 +1,6 @@
 -- The place of an edge in a row, and what a change at that place does.
-use Rattle.std.proofs.Common.{◌≡◌, ℕ, zero, suc, ◌+◌, ◌<◌, ◌≤◌, true, false, cond, List, [], ◌∷◌, length, get_or, set, Some, None, IsSome, is_some, refl, sym, ap, subst, ◌∙◌, bytes_eq, nat_cmp, arith, add-one, ⊎_elim, true≢false}
+use Rattle.std.proofs.Common.{◌≡◌, ℕ, zero, suc, ◌+◌, ◌<◌, ◌≤◌, Bool, true, false, cond, MatchBool, List, [], ◌∷◌, ◌++◌, length, get_or, set, Some, None, IsSome, is_some, refl, sym, ap, subst, ◌∙◌, bytes_eq, nat_cmp, arith, add-one, ⊎_elim, true≢false}
+use Rattle.std.specs.Prelude.{if◌then◌else◌}
 use Rattle.std.specs.List.{insert, remove, AllByRecursion, IsDistinct}
 use Rattle.std.specs.List.Sorted.{IsStrictlySortedBy, IsNonDecreasingBy}
 use Rattle.std.specs.Map.{keys_of, lookup, set_value, remove_entry}
@@ -13,9 +14,9 @@ use Rattle.std.proofs.lemmas.Map.{NonePasses, lookup-insert, lookup-none, lookup
 use Rattle.std.proofs.lemmas.Map.Keys.{IsDistinct-from_sorted}
 use Rattle.std.proofs.lemmas.Map.Lookups.{exact_bytes}
 use Rattle.tg_graph.specs.declared.right_sets.Rights.{Rights}
-use Rattle.tg_graph.specs.Rows.{Edges, IsRow, IsLabel, IsPlaceOf, IsGapFor, AreBelow, AreAbove, Puts}
+use Rattle.tg_graph.specs.Rows.{Edges, IsRow, IsLabel, IsPlaceOf, IsGapFor, AreBelow, AreAbove, Puts, Adds}
 use Rattle.tg_graph.proofs.Order.{not_less}
-use Rattle.tg_graph.proofs.Rows.{symm, labelled-puts}
+use Rattle.tg_graph.proofs.Rows.{symm, labelled-puts, adds-new}
 
 -- the order of names
 abbrev pub name_cmp : List ℕ → List ℕ → Ordering
@@ -83,6 +84,25 @@ up-insert (e ∷ row) v s (suc i) g h = (
 
 pub row-insert : (row : Edges) (v : List ℕ) (s : Rights) (i : ℕ) → IsGapFor row v i → IsLabel s → IsRow row → IsRow (insert row i (v, s))
 row-insert row v s i g l r = record { sorted = up-insert row v s i g r.sorted; labelled = labelled-puts row (insert row i (v, s)) v (Some s) r.labelled (puts-insert row v i g s) l }
+
+-- ---- behind the others
+insert-last : (row : Edges) (e : List ℕ × Rights) → insert row (length row) e ≡ row ++ e ∷ []
+insert-last [] e = refl
+insert-last (x ∷ row) e = ap (λ l. x ∷ l) (insert-last row e)
+
+module _ (row new : Edges) (v : List ℕ) (s : Rights) (below : AreBelow row v (length row)) where
+  gap-last : IsGapFor row v (length row)
+  gap-last = record { in_range = omega arith; lesser = below; greater = λ k d a l. absurd (omega (arith, a, l)) }
+
+  pub row-pushed : (pushed : Bool) → new ≡ (if pushed then row ++ (v, s) ∷ [] else row) → IsLabel s → IsRow row → IsRow new
+  row-pushed true e l r = subst IsRow (sym (e ∙ sym (insert-last row (v, s)))) (row-insert row v s (length row) gap-last l r)
+  row-pushed false e l r = subst IsRow (sym e) r
+
+  pub adds-pushed : (pushed : Bool) → new ≡ (if pushed then row ++ (v, s) ∷ [] else row) → MatchBool pushed (Adds row new v s) (new ≡ row)
+  adds-pushed true e =
+      adds-new row new v s (gap-lookup row v (length row) gap-last)
+      (subst (λ l. Puts row l v (Some s)) (insert-last row (v, s) ∙ sym e) (puts-insert row v (length row) gap-last s))
+  adds-pushed false e = e
 
 -- ---- at the edge's own place
 module _ (e : List ℕ × Rights) (row : Edges) (v : List ℕ) where

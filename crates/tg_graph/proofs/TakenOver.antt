@@ -29,7 +29,7 @@ apart-at x n (k ∷ ks) zero h at = ap (bytes_eq x) (sym (same_Some k n at)) ∙
 apart-at x n (k ∷ ks) (suc i) h at = apart-at x n ks i h.1 at
 
 -- the position of a vertex is where it stands
-differs : (n : List ℕ) (ks : List (List ℕ)) (k i : ℕ) (d : List ℕ) → IsDistinct bytes_eq ks → k < i → slice_get ks i ≡ Some n → bytes_eq n (get_or ks k d) ≡ false
+pub differs : (n : List ℕ) (ks : List (List ℕ)) (k i : ℕ) (d : List ℕ) → IsDistinct bytes_eq ks → k < i → slice_get ks i ≡ Some n → bytes_eq n (get_or ks k d) ≡ false
 unfolding IsDistinct
 differs n [] k i d h l at = absurd (none-some n at)
 differs n (x ∷ ks) k zero d h l at = absurd (omega arith)

@@ -17,3 +17,4 @@ pub mod Limits
 pub mod Drafts
 pub mod EdgeLists
 pub mod TakenRows
+pub mod Waiting

@@ -1,5 +1,5 @@
 -- Names as lists of bytes.
-use Rattle.std.specs.Prelude.{◌≡◌, ℕ, ◌+◌, ◌-◌, ◌<◌, ◌≤◌, ◌==◌, Bool, ◌&&◌, ◌||◌, nat_lt, nat_le, List, [], ◌∷◌, ◌++◌, length, replicate, take, decimal, Option, None, Some, Result, Ok, Err, if◌then◌else◌}
+use Rattle.std.specs.Prelude.{◌≡◌, ℕ, ◌+◌, ◌-◌, ◌<◌, ◌≤◌, ◌==◌, Bool, true, ◌&&◌, ◌||◌, nat_lt, nat_le, List, [], ◌∷◌, ◌++◌, get_or, length, replicate, take, decimal, Option, None, Some, Result, Ok, Err, if◌then◌else◌}
 use Rattle.std.specs.Slice.Scan.{big_endian}
 use Rattle.tg_graph.specs.declared.names.NameFault.{NameFault}
 use Rattle.tg_graph.specs.declared.names.NameFault.TheVariants.{Empty, TooLong, BadByte}
@@ -12,6 +12,10 @@ fits_at k b = (nat_le 97 b && nat_le b 122) || (b == 95) || (nat_lt 0 k && nat_l
 abbrev pub first_bad : ℕ → List ℕ → Option ℕ
 first_bad k [] = None
 first_bad k (b ∷ bs) = if fits_at k b then first_bad (k + 1) bs else Some k
+
+-- each byte in front of the place may stand behind another
+abbrev pub AllFit : List ℕ → ℕ → Type 0
+AllFit bytes place = (k : ℕ) → k < place → fits_at 1 (get_or bytes k 0) ≡ true
 
 abbrev pub checked : List ℕ → Option ℕ → Result (List ℕ) NameFault
 checked bytes None = Ok bytes
@@ -30,6 +34,12 @@ pub record IsName (bytes : List ℕ) : Type 0 where
   pub some : 0 < length bytes
   pub within : length bytes ≤ 16
   pub fit : first_bad 0 bytes ≡ None
+
+-- the name stands at the front of the bytes and the rest behind it, and none that stands there is longer
+pub record IsLongestName (bytes name rest : List ℕ) : Type 0 where
+  pub joined : bytes ≡ name ++ rest
+  pub valid : IsName name
+  pub longest : (k : ℕ) → IsName (take k bytes) → length (take k bytes) ≤ length name
 
 abbrev pub padded_to_16 : List ℕ → List ℕ
 padded_to_16 bytes = bytes ++ replicate (16 - length bytes) 0

@@ -1,9 +1,10 @@
 //! Whether a rule is accepted: one answer for a graph and for a draft laid over one.
-ghost use Rattle.std.specs.Prelude.{◌≡◌, bytes_eq};
+ghost use Rattle.std.specs.Prelude.{◌≡◌, false, MatchOption, bytes_eq};
 ghost use Rattle.std.specs.Map.{lookup};
 ghost use Rattle.std.specs.Option.{option_copied};
 ghost use Rattle.tg_graph.specs.Sets.{IsNamed};
 ghost use Rattle.tg_graph.specs.Rows.{Entries, label_of};
+ghost use Rattle.tg_graph.specs.GraphOf.{IsRowOf};
 ghost use Rattle.tg_graph.specs.Graphs.{has_vertex};
 ghost use Rattle.tg_graph.specs.GraphOf.{graph_of};
 ghost use Rattle.tg_graph.specs.Rules.{refusal_of, verdict, not_held, rights_of};
@@ -40,6 +41,18 @@ pub(crate) fn knows<R: Rows>(rows: &R, name: Name) -> bool
     }
 }
 
+// The edges out of a vertex, if the name is one.
+fn row_of<R: Rows>(rows: &R, x: Name) -> Option<&Row>
+    ensures { MatchOption result
+        (has_vertex (graph_of (R.entries rows.now)) x ≡ false)
+        (λ row. IsRowOf (R.entries rows.now) x row.now) }
+{
+    match rows.row(x) {
+        Some(row) => Some(row),
+        None => None,
+    }
+}
+
 /// The label of the edge from x to y, empty where there is none.
 pub(crate) fn label_between<R: Rows>(rows: &R, x: Name, y: Name) -> Rights
     ensures value { result ≡ label_of (R.entries rows.now) x y }
@@ -66,22 +79,22 @@ fn check_take<R: Rows>(rows: &R, x: Name, y: Name, z: Name, rights: Rights) -> R
     ensures { result ≡ verdict
         (refusal_of (graph_of (R.entries rows.now)) (Rule.Take x y z rights)) }
 {
-    if !knows(rows, x) {
+    let Some(own) = row_of(rows, x) else {
         return Err(Refusal::Unknown(x));
-    }
-    if !knows(rows, y) {
+    };
+    let Some(other) = row_of(rows, y) else {
         return Err(Refusal::Unknown(y));
-    }
+    };
     if !knows(rows, z) {
         return Err(Refusal::Unknown(z));
     }
     if rights.is_empty() {
         return Err(Refusal::Empty);
     }
-    if !holds(rows, x, Right::T, y) {
+    if !own.label(y).has(Right::T) {
         return Err(Refusal::NoTake);
     }
-    not_held(rights.difference(label_between(rows, y, z)))
+    not_held(rights.difference(other.label(z)))
 }
 
 // The first refusal of a grant.
@@ -91,9 +104,9 @@ fn check_grant<R: Rows>(rows: &R, x: Name, y: Name, z: Name, rights: Rights) -> 
     ensures { result ≡ verdict
         (refusal_of (graph_of (R.entries rows.now)) (Rule.Grant x y z rights)) }
 {
-    if !knows(rows, x) {
+    let Some(own) = row_of(rows, x) else {
         return Err(Refusal::Unknown(x));
-    }
+    };
     if !knows(rows, y) {
         return Err(Refusal::Unknown(y));
     }
@@ -103,10 +116,10 @@ fn check_grant<R: Rows>(rows: &R, x: Name, y: Name, z: Name, rights: Rights) -> 
     if rights.is_empty() {
         return Err(Refusal::Empty);
     }
-    if !holds(rows, x, Right::G, y) {
+    if !own.label(y).has(Right::G) {
         return Err(Refusal::NoGrant);
     }
-    not_held(rights.difference(label_between(rows, x, z)))
+    not_held(rights.difference(own.label(z)))
 }
 
 // The first refusal of a create.

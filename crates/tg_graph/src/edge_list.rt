@@ -1,5 +1,5 @@
 //! The edges out of one vertex in a short form: four bytes for an edge whose target's name is shared.
-ghost use Rattle.std.specs.Prelude.{◌≡◌, ◌<◌, ◌≤◌, ◌+◌, [], Some, IfOk, OnOk, OnErr, length, slice_get, slice_index_or, slice_set};
+ghost use Rattle.std.specs.Prelude.{◌≡◌, ◌<◌, ◌≤◌, ◌+◌, [], ◌∷◌, ◌++◌, if◌then◌else◌, Some, IfOk, OnOk, OnErr, length, slice_get, slice_index_or, slice_set};
 ghost use Rattle.std.specs.List.{insert, remove};
 ghost use Rattle.tg_graph.specs.declared.right_sets.Rights.{Rights};
 ghost use Rattle.tg_graph.specs.Sets.{IsNamed};
@@ -120,6 +120,16 @@ impl EdgeList {
         Some((name, edge.label()))
     }
 
+    /// Where the edge to a vertex is, in name order, if there is one to each of the shared names. It
+    /// decides no answer.
+    pub fn place_among_all(&self, target: Name) -> Option<usize> {
+        let names = self.targets.shared()?;
+        if self.edges.len() < names.len() {
+            return None;
+        }
+        names.likely_rank(target)
+    }
+
     /// The target of the edge at a place.
     pub fn target(&self, place: usize) -> Name
         requires { place < length self.now }
@@ -210,6 +220,20 @@ impl EdgeList {
     {
         self.tidy()?;
         self.put(place, edge, hint)
+    }
+
+    /// Puts an edge behind the others where the number is that of its target, and says whether it
+    /// was put there.
+    pub fn push(&mut self, target: Name, label: Rights, number: usize) -> Result<bool, AllocError>
+        ensures pushed { IfOk result
+            (λ pushed. self.new ≡ (if pushed then self.old ++ (target, label) ∷ [] else self.old)) }
+        ensures err { OnErr result (self.new ≡ self.old) }
+    {
+        if number >= MOST_NUMBERS || !self.targets.is_at(number, target) {
+            return Ok(false);
+        }
+        self.edges.push(Edge::new(number, label))?;
+        Ok(true)
     }
 
     /// Takes the edge at a place away.

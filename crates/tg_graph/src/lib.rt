@@ -1,6 +1,11 @@
 //! Protection graphs: names, rights, the graph and its four rules.
 #![tactic(auto)]
 
+mod builder;
+#[cfg(test)]
+mod builder_memory_tests;
+#[cfg(test)]
+mod builder_tests;
 mod checks;
 mod draft;
 #[cfg(test)]
@@ -10,6 +15,7 @@ mod draft_tests;
 mod edge_list;
 #[cfg(test)]
 mod famine_tests;
+mod labels;
 pub mod laws;
 mod limits;
 #[cfg(test)]
@@ -30,7 +36,9 @@ mod targets;
 mod test_values;
 #[cfg(test)]
 mod tests;
+mod waiting;
 
+pub use builder::GraphBuilder;
 pub use draft::{Draft, Ready, drafts_apart_commute, drafts_fit_by_names};
 pub use limits::{MOST_CELLS, MOST_SEATS, MOST_VERTICES};
 pub use names::{Name, NameFault};

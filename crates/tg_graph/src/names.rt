@@ -1,11 +1,11 @@
 //! Names of vertices.
-ghost use Rattle.std.specs.Prelude.{◌≡◌, ◌≤◌, ◌<◌, ◌+◌, Some, None, [], ◌∷◌, refl, length, bytes_eq, drop, decimal};
+ghost use Rattle.std.specs.Prelude.{◌≡◌, ◌≤◌, ◌<◌, ◌+◌, ℕ, true, Some, None, MatchOption, [], ◌∷◌, refl, length, bytes_eq, take, drop, decimal};
 ghost use Rattle.std.specs.Ordering.{nat_cmp};
 ghost use Rattle.std.specs.Slice.Scan.{big_endian};
 ghost use Rattle.std.specs.Cmp.{partial_equiv_from_equiv};
 ghost use Rattle.std.specs.Cmp.Lexicographic.{slice_cmp, nat_list_eq_equiv, nat_list_cmp_total, texts_ties, texts_po};
 ghost use Rattle.tg_graph.specs.NameFields.{equal_hash_alike};
-ghost use Rattle.tg_graph.specs.Names.{IsName, name_of, fits_at, first_bad, helper_name, padded_to_16, name_number};
+ghost use Rattle.tg_graph.specs.Names.{AllFit, IsName, IsLongestName, name_of, fits_at, first_bad, helper_name, padded_to_16, name_number};
 
 use std::cmp::Ordering;
 use std::hash::{Hash, Hasher};
@@ -57,10 +57,25 @@ fn fits_at(place: usize, byte: u8) -> bool
     (b'a' <= byte && byte <= b'z') || byte == b'_' || (0 < place && b'0' <= byte && byte <= b'9')
 }
 
+// Whether each byte may stand behind another. The loop goes on behind one that may not, so that it is
+// compiled to few steps for many bytes.
+fn all_fit(bytes: &[u8]) -> bool
+    ensures { result ≡ true → AllFit bytes.now (length bytes.now) }
+{
+    let mut fit = true;
+    for i in 0..bytes.len() {
+        fit &= fits_at(1, bytes[i]);
+    }
+    fit
+}
+
 // The place of the first byte that may not stand where it does.
 fn first_bad(bytes: &[u8]) -> Option<usize>
     ensures { result ≡ first_bad 0 bytes.now }
 {
+    if !bytes.is_empty() && fits_at(0, bytes[0]) && all_fit(bytes) {
+        return None;
+    }
     for i in 0..bytes.len() {
         if !fits_at(i, bytes[i]) {
             return Some(i);
@@ -89,6 +104,26 @@ fn padded(bytes: &[u8]) -> [u8; 16]
 {
     let zeros = 16 - bytes.len() as u32;
     (number_spelled(bytes) << (8 * zeros)).to_be_bytes()
+}
+
+// The longest name at the front, padded, and how many bytes it has: none where no name stands there.
+fn front(bytes: &[u8]) -> ([u8; 16], usize)
+    ensures within { result.1 ≤ length bytes.now }
+    ensures few { result.1 ≤ 16 }
+    ensures padded { result.0 ≡ padded_to_16 (take result.1 bytes.now) }
+    ensures fit { first_bad 0 (take result.1 bytes.now) ≡ None }
+    ensures longest { (k : ℕ) → IsName (take k bytes.now) → length (take k bytes.now) ≤ result.1 }
+{
+    let mut padded = [0; 16];
+    let most = bytes.len().min(16);
+    for i in 0..most {
+        let byte = bytes[i];
+        if !fits_at(i, byte) {
+            return (padded, i);
+        }
+        padded[i] = byte;
+    }
+    (padded, most)
 }
 
 // Writes the number in decimal so that it ends with the text, and gives the place of its first
@@ -125,6 +160,24 @@ impl Name {
             return Err(NameFault::BadByte(at));
         }
         Ok(Name::from_text(bytes))
+    }
+
+    /// The longest name that stands at the front of the bytes, and what stands behind it; nothing where
+    /// no name stands there.
+    pub fn at_front(bytes: &[u8]) -> Option<(Name, &[u8])>
+        ensures { MatchOption result
+            ((k : ℕ) → IsName (take k bytes.now) → ⊥)
+            (λ cut. IsLongestName bytes.now cut.0 cut.1.now) }
+    {
+        let (padded, len) = front(bytes);
+        if len == 0 {
+            return None;
+        }
+        let name = Name {
+            padded,
+            len: len as u8,
+        };
+        Some((name, &bytes[len..]))
     }
 
     /// The name `_k`, with the number in decimal and without leading zeros for k.

@@ -1,9 +1,10 @@
 //! Protection graphs.
-ghost use Rattle.std.specs.Prelude.{◌≡◌, ◌<◌, [], Some, None, true, false, IfOk, IfSome, OnOk, OnErr, bytes_eq, length, slice_get, position, is_some, MatchBool, if◌then◌else◌};
+ghost use Rattle.std.specs.Prelude.{◌≡◌, ◌<◌, ℕ, List, [], Some, None, true, false, IfOk, IfSome, OnOk, OnErr, bytes_eq, length, slice_get, position, is_some, MatchBool, if◌then◌else◌};
 ghost use Rattle.std.specs.Map.{keys_of, lookup};
 ghost use Rattle.indexmap.specs.IndexMap.{spare};
 ghost use Rattle.tg_graph.specs.Sets.{IsNamed};
-ghost use Rattle.tg_graph.specs.Rows.{is_known, label_in, IsLabel, IsGraph, row_number, Adds, ChangesRow};
+ghost use Rattle.tg_graph.specs.Rows.{is_known, is_target, label_in, IsLabel, IsRow, IsGraph, row_number, Adds, ChangesRow};
+ghost use Rattle.indexmap.specs.Layout.{set_value_at};
 ghost use Rattle.tg_graph.specs.Graphs.{has_vertex, WellFormed};
 ghost use Rattle.tg_graph.specs.GraphOf.{graph_of};
 ghost use Rattle.tg_graph.specs.Drafts.{taken_over};
@@ -142,6 +143,14 @@ impl Graph {
         }
     }
 
+    // The number that a name mostly has among the shared names.
+    fn likely_number(&self, name: Name) -> Option<usize> {
+        match &self.names {
+            Some(names) => names.likely_number(name),
+            None => None,
+        }
+    }
+
     // The graph that has these rows.
     pub(crate) fn of_rows(
         rows: IndexMap<Name, SharedRow>,
@@ -157,6 +166,19 @@ impl Graph {
             source: 0,
             alloc,
         }
+    }
+
+    // Puts a row in for the vertex at a position.
+    pub(crate) fn set_row(&mut self, source: usize, row: Row) -> Result<(), AllocError>
+        requires within { source < length self.old }
+        requires row { IsRow row }
+        requires known { (v : List ℕ) → is_target row v ≡ true → is_known self.old v ≡ true }
+        ensures put { OnOk result (self.new ≡ set_value_at self.old source row) }
+        ensures err { OnErr result (self.new ≡ self.old) }
+    {
+        let row = SharedRow::of(self.alloc, row)?;
+        row_maps::set_at(&mut self.rows, source, row);
+        Ok(())
     }
 
     // A copy of the row of a vertex.
@@ -195,13 +217,27 @@ impl Graph {
         self.position(name).is_some()
     }
 
+    // The number, if it is the position of the vertex.
+    fn confirmed(&self, number: Option<usize>, name: Name) -> Option<usize>
+        ensures { IfSome result
+            (λ number. position (bytes_eq name) (keys_of self.now) ≡ Some number) }
+    {
+        match number {
+            Some(number) if row_maps::stands_at(&self.rows, name, number) => Some(number),
+            _ => None,
+        }
+    }
+
     /// The position of a vertex, or `None` for a name that is no vertex.
     pub fn position(&self, name: Name) -> Option<usize>
         ensures { result ≡ position (bytes_eq name) (keys_of self.now) }
     {
-        match self.shared_number(name) {
-            Some(number) if row_maps::stands_at(&self.rows, name, number) => Some(number),
-            _ => self.rows.get_index_of(&name),
+        if let Some(number) = self.confirmed(self.likely_number(name), name) {
+            return Some(number);
+        }
+        match self.confirmed(self.shared_number(name), name) {
+            Some(number) => Some(number),
+            None => self.rows.get_index_of(&name),
         }
     }
 
@@ -355,7 +391,7 @@ impl Graph {
     }
 
     // The position of a vertex, looked for at a position first. That one decides no answer.
-    fn position_near(&self, guess: usize, name: Name) -> Option<usize>
+    pub(crate) fn position_near(&self, guess: usize, name: Name) -> Option<usize>
         ensures place { IfSome result (λ place. slice_get (keys_of self.now) place ≡ Some name) }
         ensures known { is_some result ≡ has_vertex (graph_of self.now) name }
     {
@@ -395,6 +431,34 @@ impl Graph {
         }
     }
 
+    // Adds an edge from x to y, which stand at these positions.
+    pub(crate) fn add_edge_at(
+        &mut self,
+        source: usize,
+        target: usize,
+        x: Name,
+        y: Name,
+        rights: Rights,
+    ) -> Result<(), EdgeFault>
+        requires named { IsNamed rights }
+        requires source { slice_get (keys_of self.old) source ≡ Some x }
+        requires known { has_vertex (graph_of self.old) x ≡ true }
+        requires target { has_vertex (graph_of self.old) y ≡ true }
+        ensures added { AddsEdge (graph_of self.old) x y rights result (graph_of self.new) }
+        ensures kept { OnErr result (self.new ≡ self.old) }
+    {
+        if rights.is_empty() {
+            return Err(self.fault_of_no_rights(x, y));
+        }
+        self.share_names(target);
+        if self.join(source, target, x, y, rights)? {
+            self.source = source;
+            Ok(())
+        } else {
+            Err(EdgeFault::EdgeThere)
+        }
+    }
+
     /// Adds an edge between vertices between which there is none, with a label that is not empty.
     pub fn add_edge(&mut self, x: Name, y: Name, rights: Rights) -> Result<(), EdgeFault>
         requires { IsNamed rights }
@@ -409,16 +473,7 @@ impl Graph {
         let Some(target) = self.position_near(next_target, y) else {
             return Err(EdgeFault::Unknown(y));
         };
-        if rights.is_empty() {
-            return Err(self.fault_of_no_rights(x, y));
-        }
-        self.share_names(target);
-        if self.join(source, target, x, y, rights)? {
-            self.source = source;
-            Ok(())
-        } else {
-            Err(EdgeFault::EdgeThere)
-        }
+        self.add_edge_at(source, target, x, y, rights)
     }
 
     /// How many edges there are out of the vertex at a position, 0 past the last.

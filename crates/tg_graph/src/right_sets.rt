@@ -1,7 +1,7 @@
 //! The rights of one vertex over another.
 ghost use Rattle.std.specs.Prelude.{⊤, ◌≡◌, ◌==◌, ◌^◌, ◌<◌, [], ◌∷◌, codes, Some, None};
-ghost use Rattle.tg_graph.specs.Sets.{member, bit_of, IsNamed, right_of_letter};
-ghost use Rattle.tg_graph.specs.Letters.{letters_of, letters_among, letter_of, set_of_letters};
+ghost use Rattle.tg_graph.specs.Sets.{member, bit_of, nothing, IsNamed, right_of_letter};
+ghost use Rattle.tg_graph.specs.Letters.{letters_of, letters_among, letter_of, set_of_letters, with_letters};
 ghost use Rattle.std.specs.Prelude.{◌+◌, ◌||◌, ◌&&◌, ◌↔◌, not, true, IsTrue, bit_or, slice_get, length, IfSome};
 ghost use Rattle.tg_graph.specs.declared.right_sets.Right.{Right};
 ghost use Rattle.tg_graph.specs.Sets.{rights_where};
@@ -208,18 +208,29 @@ impl Rights {
         None
     }
 
-    /// The set that the bytes write: one letter or more, in any order and none twice, or `-` for
-    /// the empty set.
-    pub fn from_letters(letters: &[u8]) -> Option<Rights>
-        ensures value { result ≡ set_of_letters letters.now }
+    // The set that one byte writes.
+    fn from_byte(byte: u8) -> Option<Rights>
+        ensures value { result ≡ set_of_letters (byte ∷ []) }
         ensures named { IfSome result IsNamed }
     {
-        if letters == b"-".as_slice() {
-            return Some(Rights::empty());
+        match byte {
+            b't' => Some(Rights::TAKE),
+            b'g' => Some(Rights::GRANT),
+            b'r' => Some(Rights::READ),
+            b'w' => Some(Rights::WRITE),
+            b'e' => Some(Rights::EXECUTE),
+            b'a' => Some(Rights::APPEND),
+            b'd' => Some(Rights::DELETE),
+            b'-' => Some(Rights::empty()),
+            _ => None,
         }
-        if letters.is_empty() {
-            return None;
-        }
+    }
+
+    // The set of the letters, none of which stands twice.
+    fn of_all(letters: &[u8]) -> Option<Rights>
+        ensures value { result ≡ with_letters (Some nothing) letters.now }
+        ensures named { IfSome result IsNamed }
+    {
         let mut rights = Rights::empty();
         for letter in letters {
             let right = Right::from_letter(*letter)?;
@@ -229,5 +240,18 @@ impl Rights {
             rights = Flags::union(rights, Rights::of(right));
         }
         Some(rights)
+    }
+
+    /// The set that the bytes write: one letter or more, in any order and none twice, or `-` for
+    /// the empty set.
+    pub fn from_letters(letters: &[u8]) -> Option<Rights>
+        ensures value { result ≡ set_of_letters letters.now }
+        ensures named { IfSome result IsNamed }
+    {
+        match letters {
+            [] => None,
+            [byte] => Rights::from_byte(*byte),
+            _ => Rights::of_all(letters),
+        }
     }
 }

@@ -1,5 +1,5 @@
 //! The edges out of one vertex.
-ghost use Rattle.std.specs.Prelude.{◌≡◌, true, Some, None, ◌<◌, ◌≤◌, [], IfOk, IfErr, OnOk, OnErr, bytes_eq, length, slice_get};
+ghost use Rattle.std.specs.Prelude.{◌≡◌, true, Some, None, ◌<◌, ◌≤◌, [], IfOk, IfErr, OnOk, OnErr, bytes_eq, length, slice_get, MatchBool};
 ghost use Rattle.std.specs.Map.{lookup};
 ghost use Rattle.tg_graph.specs.Sets.{IsNamed};
 ghost use Rattle.tg_graph.specs.Rows.{label_in, IsLabel, IsRow, Puts, Adds, TakesAway, IsPlaceOf, IsGapFor, AreBelow, AreAbove};
@@ -75,7 +75,8 @@ impl Row {
 
     /// How many edges there are.
     pub fn len(&self) -> usize
-        ensures { result ≡ length self.now }
+        ensures value { result ≡ length self.now }
+        ensures row { IsRow self.now }
     {
         self.edges.len()
     }
@@ -88,8 +89,15 @@ impl Row {
         self.edges.at(position)
     }
 
-    /// Where the edge to y is, or where it would go.
-    pub fn place(&self, y: Name) -> Result<usize, usize>
+    // Whether the edge to y is at the place.
+    fn is_at(&self, place: usize, y: Name) -> bool
+        ensures { result ≡ true → IsPlaceOf self.now y place }
+    {
+        place < self.edges.len() && self.edges.target(place) == y
+    }
+
+    // Where the edge to y is, or where it would go, found by halves.
+    fn place_by_halves(&self, y: Name) -> Result<usize, usize>
         ensures found { IfOk result (IsPlaceOf self.now y) }
         ensures absent { IfErr result (IsGapFor self.now y) }
         ensures row { IsRow self.now }
@@ -105,6 +113,19 @@ impl Row {
             }
         }
         Err(low)
+    }
+
+    /// Where the edge to y is, or where it would go. It is found at once where there are edges to all
+    /// the vertices whose names the rows share.
+    pub fn place(&self, y: Name) -> Result<usize, usize>
+        ensures found { IfOk result (IsPlaceOf self.now y) }
+        ensures absent { IfErr result (IsGapFor self.now y) }
+        ensures row { IsRow self.now }
+    {
+        match self.edges.place_among_all(y) {
+            Some(place) if self.is_at(place, y) => Ok(place),
+            _ => self.place_by_halves(y),
+        }
     }
 
     // Whether each target in front of the place is below y.
@@ -203,6 +224,23 @@ impl Row {
         Ok(())
     }
 
+    /// Adds the edge to y behind the others where the number is that of y and no target is above y,
+    /// and says whether it was added.
+    pub fn push(&mut self, y: Name, label: Rights, number: usize) -> Result<bool, AllocError>
+        requires { IsLabel label }
+        ensures pushed { IfOk result
+            (λ pushed. MatchBool pushed (Adds self.old self.new y label) (self.new ≡ self.old)) }
+        ensures err { OnErr result (self.new ≡ self.old) }
+        ensures row { IsRow self.new }
+    {
+        let end = self.edges.len();
+        if !self.is_above(end, y) {
+            return Ok(false);
+        }
+        let pushed = self.edges.push(y, label, number)?;
+        Ok(pushed)
+    }
+
     // Takes the edge to y away, which is at the place.
     fn cut(&mut self, place: usize, y: Name)
         requires { IsPlaceOf self.old y place }
@@ -224,7 +262,7 @@ impl Row {
         if rights.is_empty() {
             return Ok(());
         }
-        match self.place(y) {
+        match self.place_of_next(y) {
             Ok(place) => {
                 let label = Flags::union(self.label_at(place, y), rights);
                 self.write(place, y, label);

@@ -137,8 +137,8 @@ pub fn stands_at(rows: &IndexMap<Name, SharedRow>, n: Name, place: usize) -> boo
     }
 }
 
-// Puts a row in at a place.
-fn set_at(rows: &mut IndexMap<Name, SharedRow>, place: usize, row: SharedRow)
+/// Puts a row in at a place.
+pub fn set_at(rows: &mut IndexMap<Name, SharedRow>, place: usize, row: SharedRow)
     requires { place < length rows.old.entries }
     ensures set { rows.new.entries ≡ set_value_at rows.old.entries place row }
     ensures room { spare rows.new ≡ spare rows.old }

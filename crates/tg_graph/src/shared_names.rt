@@ -9,15 +9,24 @@ use std::sync::Arc;
 // How many slots there are for each name.
 const SLOTS_A_NAME: usize = 4;
 
+// Where a name may stand: its place in the name order, and its number.
+#[derive(Clone, Copy)]
+struct Slot {
+    rank: u32,
+    number: u32,
+}
+
 // Names by number, and what finds the number of a name.
 #[derive(Drop)]
 struct NameTable {
     names: Vec<Name>,
     // Each name with its number, in name order.
     in_order: Vec<(Name, usize)>,
-    // The number of a name may stand at its slot. A name whose slot has another's is looked for in
-    // the order, so that no choice of names makes a look-up dear.
-    slots: Vec<u32>,
+    // The numbers in the same order, close together.
+    numbers: Vec<u32>,
+    // A name whose slot has another's is looked for in the order, so that no choice of names makes a
+    // look-up dear.
+    slots: Vec<Slot>,
 }
 
 /// Names by number. Clones share them, and they never change.
@@ -57,19 +66,32 @@ fn in_order(alloc: Global, names: &[Name]) -> Result<Vec<(Name, usize)>, AllocEr
     Ok(in_order)
 }
 
+// Their numbers, in the same order.
+fn numbers_of(alloc: Global, in_order: &[(Name, usize)]) -> Result<Vec<u32>, AllocError> {
+    let mut numbers = Vec::with_capacity(alloc, in_order.len())?;
+    for (_, number) in in_order {
+        numbers.push(u32::try_from(*number).unwrap_or(0))?;
+    }
+    Ok(numbers)
+}
+
 // The slot of a name among so many, if there are any.
 fn slot_of(name: Name, slots: usize) -> usize {
     let spread = u64::from(name.spread());
     (spread.wrapping_mul(slots as u64) >> 32) as usize
 }
 
-// At the slot of each name the number of the last name with that slot.
-fn slots_of(alloc: Global, names: &[Name]) -> Result<Vec<u32>, AllocError> {
-    let count = names.len().saturating_mul(SLOTS_A_NAME);
-    let mut slots = Vec::from_elem(alloc, 0, count)?;
-    for (number, name) in names.iter().enumerate() {
+// At the slot of each name where the last name with that slot stands.
+fn slots_of(alloc: Global, in_order: &[(Name, usize)]) -> Result<Vec<Slot>, AllocError> {
+    let count = in_order.len().saturating_mul(SLOTS_A_NAME);
+    let nowhere = Slot { rank: 0, number: 0 };
+    let mut slots = Vec::from_elem(alloc, nowhere, count)?;
+    for (rank, (name, number)) in in_order.iter().enumerate() {
         if let Some(slot) = slots.get_mut(slot_of(*name, count)) {
-            *slot = u32::try_from(number).unwrap_or(0);
+            *slot = Slot {
+                rank: u32::try_from(rank).unwrap_or(0),
+                number: u32::try_from(*number).unwrap_or(0),
+            };
         }
     }
     Ok(slots)
@@ -81,10 +103,12 @@ impl SharedNames {
         ensures { IfOk result (λ shared. shared ≡ names.items) }
     {
         let in_order = in_order(alloc, &names)?;
-        let slots = slots_of(alloc, &names)?;
+        let numbers = numbers_of(alloc, &in_order)?;
+        let slots = slots_of(alloc, &in_order)?;
         let table = NameTable {
             names,
             in_order,
+            numbers,
             slots,
         };
         Ok(SharedNames {
@@ -99,6 +123,27 @@ impl SharedNames {
         self.table.names.len()
     }
 
+    /// The numbers of the names in name order. They decide no answer.
+    pub fn numbers_in_order(&self) -> &[u32] {
+        self.table.numbers.as_slice()
+    }
+
+    // What stands at the slot of a name.
+    fn slot(&self, name: Name) -> Option<Slot> {
+        let slots = &self.table.slots;
+        slots.get(slot_of(name, slots.len())).copied()
+    }
+
+    /// The place in the name order that a name mostly has. It decides no answer.
+    pub fn likely_rank(&self, name: Name) -> Option<usize> {
+        Some(self.slot(name)?.rank as usize)
+    }
+
+    /// The number that a name mostly has. It decides no answer.
+    pub fn likely_number(&self, name: Name) -> Option<usize> {
+        Some(self.slot(name)?.number as usize)
+    }
+
     /// The name with a number.
     pub fn at(&self, number: usize) -> Option<Name>
         ensures { result ≡ slice_get self.now number }
@@ -108,13 +153,6 @@ impl SharedNames {
 }
 
 impl SharedNames {
-    // The number at the slot of a name.
-    fn number_at_slot(&self, name: Name) -> Option<usize> {
-        let slots = &self.table.slots;
-        let number = slots.get(slot_of(name, slots.len()))?;
-        Some(*number as usize)
-    }
-
     // The number of a name by the order of the names.
     fn number_in_order(&self, name: Name) -> Option<usize> {
         let in_order = &self.table.in_order;
@@ -140,7 +178,7 @@ impl SharedNames {
     pub fn find(&self, name: Name) -> Option<usize>
         ensures { IfSome result (λ number. slice_get self.now number ≡ Some name) }
     {
-        match self.confirmed(self.number_at_slot(name), name) {
+        match self.confirmed(self.likely_number(name), name) {
             Some(number) => Some(number),
             None => self.confirmed(self.number_in_order(name), name),
         }

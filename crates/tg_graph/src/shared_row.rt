@@ -50,6 +50,15 @@ impl SharedRow {
         })
     }
 
+    /// The edges of a row, which no other has so far.
+    pub fn of(alloc: Global, row: Row) -> Result<SharedRow, AllocError>
+        ensures { IfOk result (λ shared. shared ≡ row) }
+    {
+        Ok(SharedRow {
+            row: Arc::new(alloc, row)?,
+        })
+    }
+
     /// The same edges in a row of their own.
     pub fn unshared(&self, alloc: Global) -> Result<SharedRow, AllocError>
         ensures { IfOk result (λ row. row ≡ self.now) }

@@ -80,8 +80,8 @@ impl Targets {
         }
     }
 
-    // Whether a number is that of the name.
-    fn is_at(&self, number: usize, name: Name) -> bool
+    /// Whether a number is that of the name.
+    pub fn is_at(&self, number: usize, name: Name) -> bool
         ensures { result ≡ true → slice_get (names_of self.now) number ≡ Some name }
     {
         match self.at(number) {

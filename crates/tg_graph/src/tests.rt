@@ -48,6 +48,40 @@ fn names(rt: HostRuntime) {
 }
 
 #[test]
+fn names_at_the_front(rt: HostRuntime) {
+    for (bytes, front, rest) in [
+        (b"a".as_slice(), b"a".as_slice(), b"".as_slice()),
+        (b"v12 b".as_slice(), b"v12".as_slice(), b" b".as_slice()),
+        (b"_9\n".as_slice(), b"_9".as_slice(), b"\n".as_slice()),
+        (b"ab-c".as_slice(), b"ab".as_slice(), b"-c".as_slice()),
+        (
+            b"abcdefghijklmno0".as_slice(),
+            b"abcdefghijklmno0".as_slice(),
+            b"".as_slice(),
+        ),
+        (
+            b"abcdefghijklmnopq r".as_slice(),
+            b"abcdefghijklmnop".as_slice(),
+            b"q r".as_slice(),
+        ),
+    ] {
+        let found = match Name::at_front(bytes) {
+            Some(cut) => cut.0.as_bytes() == front && cut.1 == rest,
+            None => false,
+        };
+        assert!(rt; found);
+    }
+    for bytes in [
+        b"".as_slice(),
+        b" a".as_slice(),
+        b"9a".as_slice(),
+        b"Ab".as_slice(),
+    ] {
+        assert!(rt; Name::at_front(bytes).is_none());
+    }
+}
+
+#[test]
 fn names_of_helpers(rt: HostRuntime) {
     assert!(rt; Name::helper(0).as_bytes() == b"_0".as_slice());
     assert!(rt; Name::helper(120).as_bytes() == b"_120".as_slice());

@@ -1,6 +1,6 @@
 use Rattle.std.proofs.Common.{◌-◌, ◌≤◌, length}
 use Rattle.tg_graph.specs.Rows.{AreBelow, AreAbove}
-use Rattle.tg_graph.proofs.row.Row.place.Given as goal
+use Rattle.tg_graph.proofs.row.Row.place_by_halves.Given as goal
 
 -- the targets in front of `low` are below y, and those from `high` on above
 abbrev pub invariant-loop-low : goal.invariant-loop-low

@@ -2,7 +2,7 @@ use Rattle.std.proofs.Common.{◌<◌, ◌+◌, ◌-◌, ◌/◌, ℕ, arith, sy
 use Rattle.std.specs.Ordering.{is_lt, is_gt}
 use Rattle.tg_graph.specs.Rows.{IsPlaceOf, IsGapFor}
 use Rattle.tg_graph.proofs.Places.{below_from_last, above_from_first, place_from_equal}
-use Rattle.tg_graph.proofs.row.Row.place.Goals as goal
+use Rattle.tg_graph.proofs.row.Row.place_by_halves.Goals as goal
 
 between : (low high : ℕ) → low < high → low + (high - low) / 2 < high
 between low high h = omega arith

@@ -1,9 +1,9 @@
 use Rattle.std.proofs.Common.{◌∙◌, ◌+◌, sym, ap, refl, drop, get_or, Some}
 use Rattle.tg_graph.specs.Sets.{right_of_letter}
 use Rattle.tg_graph.specs.Letters.{with_letters, with_new_right}
-use Rattle.tg_graph.proofs.Letters.{none-letters, letters-step, start-letters, taken-step, new-step, same_union}
+use Rattle.tg_graph.proofs.Letters.{none-letters, letters-step, taken-step, new-step, same_union}
 use Rattle.tg_graph.proofs.Sets.{named-union}
-use Rattle.tg_graph.proofs.right_sets.Rights.from_letters.Goals as goal
+use Rattle.tg_graph.proofs.right_sets.Rights.of_all.Goals as goal
 
 pub returns-in_err-right-clause-value : goal.returns-in_err-right-clause-value
 returns-in_err-right-clause-value c =
@@ -11,8 +11,7 @@ returns-in_err-right-clause-value c =
     let i = c.loop-letter.letter-index in
     let s = c.loop-letter.rights in
     c.from_residual.ensures
-    ∙ sym (start-letters bs _ _ _ s c.as_slice.ensures c.eq.ensures c.if-eq.false c.is_empty.ensures c.if-is_empty.false
-    ∙ c.loop-letter.invariant.0
+    ∙ sym (c.loop-letter.invariant.0
     ∙ letters-step s bs i (get_or bs i 0) c.loop-letter-test.true refl
     ∙ ap (λ r. with_letters (with_new_right s r) (drop (i + 1) bs)) (sym c.from_letter.ensures ∙ c.in_err-right.was)
     ∙ none-letters (drop (i + 1) bs))
@@ -22,8 +21,7 @@ returns-then-has-clause-value c =
     let bs = c.args.letters.now in
     let i = c.loop-letter.letter-index in
     let s = c.loop-letter.rights in
-    sym (start-letters bs _ _ _ s c.as_slice.ensures c.eq.ensures c.if-eq.false c.is_empty.ensures c.if-is_empty.false
-    ∙ c.loop-letter.invariant.0
+    sym (c.loop-letter.invariant.0
     ∙ letters-step s bs i (get_or bs i 0) c.loop-letter-test.true refl
     ∙ ap (λ o. with_letters o (drop (i + 1) bs)) (taken-step s (right_of_letter (get_or bs i 0)) c.in_ok-right.right (sym c.from_letter.ensures ∙ c.in_ok-right.was) (sym c.has.ensures ∙ c.if-has.true))
     ∙ none-letters (drop (i + 1) bs))
