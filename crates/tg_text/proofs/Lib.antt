@@ -24,3 +24,5 @@ pub mod GraphBack
 pub mod ScriptNumbers
 pub mod RulesBack
 pub mod SmallGraphs
+pub mod LikelyLines
+pub mod PlainRules

@@ -24,10 +24,10 @@ use Rattle.tg_text.proofs.WordCuts.{word_first}
 use Rattle.tg_text.specs.Limits.{most_line_bytes}
 
 -- ---- words without blanks and line feeds
-abbrev is_plain : ℕ → Bool
+abbrev pub is_plain : ℕ → Bool
 is_plain b = not (is_blank b) && not (b == 10)
 
-abbrev Plain : List ℕ → Type 0
+abbrev pub Plain : List ℕ → Type 0
 Plain = AllByRecursion (λ b. is_plain b ≡ true)
 
 pub record IsPlainWord (word : Word) : Type 0 where

@@ -9,12 +9,13 @@ use Rattle.tg_graph.specs.declared.rules.Rule.TheVariants.{Take, Grant, Create, 
 use Rattle.tg_graph.specs.Graphs.{Name}
 use Rattle.tg_graph.specs.Names.{IsName}
 use Rattle.tg_graph.specs.Sets.{IsNamed}
+use Rattle.tg_graph.specs.Rules.{rights_of}
 use Rattle.tg_graph.specs.RuleWords.{IsRule}
 use Rattle.tg_text.specs.declared.faults.TextKind.TheVariants.{BadRights, LineTooLong}
 use Rattle.tg_text.specs.Lines.{words_of}
 use Rattle.tg_text.specs.Reading.{◌>>=◌}
 use Rattle.tg_text.specs.Words.{Word, name_at, rights_at, value_or}
-use Rattle.tg_text.specs.RuleText.{two_names, three_names, rule_of_words, rule_of_line}
+use Rattle.tg_text.specs.RuleText.{two_names, three_names, rule_of_words, rule_of_line, words_with}
 use Rattle.tg_text.specs.Spelling.{rule_text, rule_words, rights_text, spaced}
 use Rattle.tg_text.proofs.PlainWords.{IsPlainWord, word_from_test, name_word, rights_word, words-spaced, length-rights}
 use Rattle.tg_text.proofs.RightsBack.{rights-back}
@@ -24,27 +25,34 @@ use Rattle.tg_text.specs.Limits.{most_line_bytes}
 pub rights_at-is : (s : Rights) → IsNamed s → rights_at (rights_text s) ≡ Ok s
 rights_at-is s n = ap (value_or BadRights) (rights-back s n)
 
-two_names-is : (x y : Name) (s : Rights) → IsName x → IsName y → IsNamed s → two_names (x ∷ y ∷ rights_text s ∷ []) ≡ Ok (x, y, s)
+two_names-is : (x y : Name) (letters : Word) (s : Rights) → IsName x → IsName y → rights_at letters ≡ Ok s → two_names (x ∷ y ∷ letters ∷ []) ≡ Ok (x, y, s)
 unfolding two_names
-two_names-is x y s p q n =
-    ap (λ r. r >>= λ x. name_at y >>= λ y. rights_at (rights_text s) >>= λ s. Ok (x, y, s)) (name_from x p)
-    ∙ ap (λ r. r >>= λ y. rights_at (rights_text s) >>= λ s. Ok (x, y, s)) (name_from y q)
-    ∙ ap (λ r. r >>= λ s. Ok (x, y, s)) (rights_at-is s n)
+two_names-is x y letters s p q e =
+    ap (λ r. r >>= λ x. name_at y >>= λ y. rights_at letters >>= λ s. Ok (x, y, s)) (name_from x p)
+    ∙ ap (λ r. r >>= λ y. rights_at letters >>= λ s. Ok (x, y, s)) (name_from y q)
+    ∙ ap (λ r. r >>= λ s. Ok (x, y, s)) e
 
-three_names-is : (x y z : Name) (s : Rights) → IsName x → IsName y → IsName z → IsNamed s → three_names (x ∷ y ∷ z ∷ rights_text s ∷ []) ≡ Ok (x, y, z, s)
+three_names-is : (x y z : Name) (letters : Word) (s : Rights) → IsName x → IsName y → IsName z → rights_at letters ≡ Ok s → three_names (x ∷ y ∷ z ∷ letters ∷ []) ≡ Ok (x, y, z, s)
 unfolding three_names
-three_names-is x y z s p q r n =
-    ap (λ r. r >>= λ x. name_at y >>= λ y. name_at z >>= λ z. rights_at (rights_text s) >>= λ s. Ok (x, y, z, s)) (name_from x p)
-    ∙ ap (λ r. r >>= λ y. name_at z >>= λ z. rights_at (rights_text s) >>= λ s. Ok (x, y, z, s)) (name_from y q)
-    ∙ ap (λ r. r >>= λ z. rights_at (rights_text s) >>= λ s. Ok (x, y, z, s)) (name_from z r)
-    ∙ ap (λ r. r >>= λ s. Ok (x, y, z, s)) (rights_at-is s n)
+three_names-is x y z letters s p q r e =
+    ap (λ r. r >>= λ x. name_at y >>= λ y. name_at z >>= λ z. rights_at letters >>= λ s. Ok (x, y, z, s)) (name_from x p)
+    ∙ ap (λ r. r >>= λ y. name_at z >>= λ z. rights_at letters >>= λ s. Ok (x, y, z, s)) (name_from y q)
+    ∙ ap (λ r. r >>= λ z. rights_at letters >>= λ s. Ok (x, y, z, s)) (name_from z r)
+    ∙ ap (λ r. r >>= λ s. Ok (x, y, z, s)) e
+
+-- the words of a rule, its letters in any order
+pub words_with-read : (rule : Rule) (letters : Word) → IsRule rule → rights_at letters ≡ Ok (rights_of rule) → rule_of_words (words_with rule letters) ≡ Ok rule
+unfolding rule_of_words
+words_with-read (Take x y z s) letters (p, q, r, n) e = ap (λ w. w >>= λ a. Ok (Take a.0 a.1 a.2 a.3)) (three_names-is x y z letters s p q r e)
+words_with-read (Grant x y z s) letters (p, q, r, n) e = ap (λ w. w >>= λ a. Ok (Grant a.0 a.1 a.2 a.3)) (three_names-is x y z letters s p q r e)
+words_with-read (Create x m s) letters (p, q, n) e = ap (λ w. w >>= λ a. Ok (Create a.0 a.1 a.2)) (two_names-is x m letters s p q e)
+words_with-read (Remove x y s) letters (p, q, n) e = ap (λ w. w >>= λ a. Ok (Remove a.0 a.1 a.2)) (two_names-is x y letters s p q e)
 
 pub words-back : (rule : Rule) → IsRule rule → rule_of_words (rule_words rule) ≡ Ok rule
-unfolding rule_of_words
-words-back (Take x y z s) (p, q, r, n) = ap (λ w. w >>= λ a. Ok (Take a.0 a.1 a.2 a.3)) (three_names-is x y z s p q r n)
-words-back (Grant x y z s) (p, q, r, n) = ap (λ w. w >>= λ a. Ok (Grant a.0 a.1 a.2 a.3)) (three_names-is x y z s p q r n)
-words-back (Create x m s) (p, q, n) = ap (λ w. w >>= λ a. Ok (Create a.0 a.1 a.2)) (two_names-is x m s p q n)
-words-back (Remove x y s) (p, q, n) = ap (λ w. w >>= λ a. Ok (Remove a.0 a.1 a.2)) (two_names-is x y s p q n)
+words-back (Take x y z s) i = words_with-read (Take x y z s) (rights_text s) i (rights_at-is s i.3)
+words-back (Grant x y z s) i = words_with-read (Grant x y z s) (rights_text s) i (rights_at-is s i.3)
+words-back (Create x m s) i = words_with-read (Create x m s) (rights_text s) i (rights_at-is s i.2)
+words-back (Remove x y s) i = words_with-read (Remove x y s) (rights_text s) i (rights_at-is s i.2)
 
 pub plain-rule : (rule : Rule) → IsRule rule → AllByRecursion IsPlainWord (rule_words rule)
 plain-rule (Take x y z s) (p, q, r, n) = (word_from_test (codes "take") refl refl, (name_word x p, (name_word y q, (name_word z r, (rights_word s, tt)))))

@@ -1,12 +1,12 @@
 -- Reading a text line by line, up to the first fault.
-use Rattle.std.specs.Prelude.{◌≡◌, ℕ, ◌+◌, nat_lt, nat_le, List, [], ◌∷◌, ◌++◌, length, Option, None, Some, Result, Ok, Err, if◌then◌else◌}
+use Rattle.std.specs.Prelude.{◌≡◌, ℕ, ◌+◌, ◌<◌, nat_lt, nat_le, List, [], ◌∷◌, ◌++◌, length, Option, None, Some, Result, Ok, Err, if◌then◌else◌}
 use Rattle.tg_text.specs.declared.faults.TextKind.{TextKind}
 use Rattle.tg_text.specs.declared.faults.TextKind.TheVariants.{LineTooLong, TooMany}
 use Rattle.tg_text.specs.declared.faults.TextFault.{TextFault}
 use Rattle.tg_text.specs.declared.faults.TextFault.TheVariants.{At, Memory}
 use Rattle.tg_text.specs.declared.faults.LineFault.{LineFault}
 use Rattle.tg_text.specs.declared.faults.LineFault.TheVariants as line
-use Rattle.tg_text.specs.Lines.{words_of, is_skipped}
+use Rattle.tg_text.specs.Lines.{lines_of, words_of, is_skipped}
 use Rattle.tg_text.specs.Limits.{most_line_bytes}
 
 -- goes on with the value, if there is one
@@ -28,6 +28,13 @@ after_line item a line = if nat_lt most_line_bytes (length line) then Err LineTo
 abbrev pub after_lines : {A : Type 0} → (ℕ → A → List (List ℕ) → Result A TextKind) → ℕ → A → List (List ℕ) → Result A (ℕ × TextKind)
 after_lines item n a [] = Ok a
 after_lines item n a (line ∷ lines) = on_line n (after_line (item n) a line) >>= λ b. after_lines item (n + 1) b lines
+
+-- the first line of a text makes b of what earlier lines made, and the rest of the text stands behind it
+pub record MakesFirst {A : Type 0} (item : A → List (List ℕ) → Result A TextKind) (a : A) (text : List ℕ) (b : A) (rest : List ℕ) : Type 0 where
+  pub line : List ℕ
+  pub cut : lines_of text ≡ line ∷ lines_of rest
+  pub shorter : length rest < length text
+  pub made : after_line item a line ≡ Ok b
 
 -- one more item, if there are fewer than most
 abbrev pub with_item : {A : Type 0} → ℕ → List A → Result A TextKind → Result (List A) TextKind

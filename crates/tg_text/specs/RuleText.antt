@@ -43,6 +43,13 @@ rule_of_words (word ∷ words) =
     else (if is_word word (codes "remove") then (two_names words >>= λ a. Ok (Remove a.0 a.1 a.2))
     else Err BadWord)))
 
+-- the words of a rule, whose rights are written in these letters
+abbrev pub words_with : Rule → Word → List Word
+words_with (Take x y z s) letters = codes "take" ∷ x ∷ y ∷ z ∷ letters ∷ []
+words_with (Grant x y z s) letters = codes "grant" ∷ x ∷ y ∷ z ∷ letters ∷ []
+words_with (Create x n s) letters = codes "create" ∷ x ∷ n ∷ letters ∷ []
+words_with (Remove x y s) letters = codes "remove" ∷ x ∷ y ∷ letters ∷ []
+
 -- The rule that a line writes. A line that a text would skip writes none.
 abbrev pub rule_of_line : List ℕ → Result Rule TextKind
 rule_of_line line = if nat_lt most_line_bytes (length line) then Err LineTooLong else rule_of_words (words_of line)

@@ -72,6 +72,36 @@ fn graph_faults(rt: HostRuntime) {
     }
 }
 
+// In lines whose names are the likely ones: the source of the line before and the next vertex.
+#[test]
+fn faults_of_likely_lines(rt: HostRuntime) {
+    let front = b"vertex a\nvertex b\nvertex c\nedge a a t\n";
+    let rows: [(&[u8], usize, TextKind); 8] = [
+        (b"edge a b a\n", 5, TextKind::BadRights),
+        (b"edge a b -\n", 5, TextKind::BadRights),
+        (b"edge a b rr\n", 5, TextKind::BadRights),
+        (b"edge a b \n", 5, TextKind::WordCount),
+        (b"edge a b r w\n", 5, TextKind::WordCount),
+        (b"edgy a b r\n", 5, TextKind::BadWord),
+        (b"edge a bb r\n", 5, TextKind::UnknownVertex),
+        (
+            b"edge a b r\nedge a c r\nedge a c r\n",
+            7,
+            TextKind::DuplicateEdge,
+        ),
+    ];
+    for (last, line, kind) in rows {
+        let mut text = [0; 80];
+        text[..front.len()].copy_from_slice(front);
+        let end = front.len() + last.len();
+        if end <= text.len() {
+            text[front.len()..end].copy_from_slice(last);
+            let fault = read_graph(rt.alloc(), &text[..end]).err();
+            assert!(rt; fault == Some(TextFault::At { line, kind }));
+        }
+    }
+}
+
 #[test]
 fn version_faults(rt: HostRuntime) {
     let rows: [(&[u8], usize, TextKind); 11] = [

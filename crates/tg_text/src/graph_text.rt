@@ -1,11 +1,13 @@
 //! The text of a graph.
-ghost use Rattle.std.specs.Prelude.{⊤, ◌≡◌, ◌<◌, ◌∷◌, false};
+ghost use Rattle.std.specs.Prelude.{⊤, ◌≡◌, ◌<◌, ◌∷◌, [], false, MatchBool, Ok};
+ghost use Rattle.tg_graph.specs.Names.{IsName};
 ghost use Rattle.tg_graph.specs.Sets.{IsNamed, is_empty_set};
 ghost use Rattle.tg_graph.specs.GraphOf.{graph_of};
+ghost use Rattle.tg_graph.specs.Waiting.{graph_built};
 ghost use Rattle.tg_text.specs.Lines.{words_of};
 ghost use Rattle.tg_text.specs.Reading.{Makes, Reads};
 ghost use Rattle.tg_text.specs.Versions.{version_of};
-ghost use Rattle.tg_text.specs.GraphText.{GraphSoFar, version_item, vertex_item, edge_item, graph_item, graph_text, with_new_vertex, with_new_edge};
+ghost use Rattle.tg_text.specs.GraphText.{GraphSoFar, version_item, vertex_item, edge_item, graph_item, graph_text, nothing_read, with_new_vertex, with_new_edge};
 
 use crate::faults::{LineFault, TextFault, TextKind};
 use crate::likely_names::LastSource;
@@ -13,11 +15,11 @@ use crate::reading::{Items, read_lines};
 use crate::versions::{LAST_VERSION, Version};
 use crate::words::{edge_rights_at, header_number, name_at, one_word, three_words};
 use std::alloc::Global;
-use tg_graph::{EdgeFault, Graph, Name, Rights, VertexFault};
+use tg_graph::{EdgeFault, Graph, GraphBuilder, Name, Rights, VertexFault};
 
-fn add_vertex(graph: &mut Graph, version: Version, name: Name) -> Result<(), LineFault>
-    ensures { Makes (with_new_vertex version (graph_of graph.old) name) result
-        (graph_of graph.new) }
+fn add_vertex(graph: &mut GraphBuilder, version: Version, name: Name) -> Result<(), LineFault>
+    ensures { Makes (with_new_vertex version (graph_built graph.old) name) result
+        (graph_built graph.new) }
 {
     if graph.len() >= version.most_vertices() && !graph.knows(name) {
         return Err(LineFault::Kind(TextKind::TooManyVertices));
@@ -29,10 +31,10 @@ fn add_vertex(graph: &mut Graph, version: Version, name: Name) -> Result<(), Lin
     }
 }
 
-fn add_edge(graph: &mut Graph, x: Name, y: Name, rights: Rights) -> Result<(), LineFault>
+fn add_edge(graph: &mut GraphBuilder, x: Name, y: Name, rights: Rights) -> Result<(), LineFault>
     requires named { IsNamed rights }
     requires some { is_empty_set rights ≡ false }
-    ensures { Makes (with_new_edge (graph_of graph.old) x y rights) result (graph_of graph.new) }
+    ensures { Makes (with_new_edge (graph_built graph.old) x y rights) result (graph_built graph.new) }
 {
     match graph.add_edge(x, y, rights) {
         Ok(()) => Ok(()),
@@ -44,9 +46,13 @@ fn add_edge(graph: &mut Graph, x: Name, y: Name, rights: Rights) -> Result<(), L
 }
 
 #[tactic(auto, unfolding(crate::specs::GraphText::vertex_item))]
-fn add_vertex_line(graph: &mut Graph, version: Version, words: &[u8]) -> Result<(), LineFault>
-    ensures { Makes (vertex_item version (graph_of graph.old) (words_of words.now)) result
-        (graph_of graph.new) }
+fn add_vertex_line(
+    graph: &mut GraphBuilder,
+    version: Version,
+    words: &[u8],
+) -> Result<(), LineFault>
+    ensures { Makes (vertex_item version (graph_built graph.old) (words_of words.now)) result
+        (graph_built graph.new) }
 {
     let word = one_word(words)?;
     let name = name_at(word)?;
@@ -56,27 +62,42 @@ fn add_vertex_line(graph: &mut Graph, version: Version, words: &[u8]) -> Result<
 
 #[tactic(auto, unfolding(crate::specs::GraphText::edge_item))]
 fn add_edge_line(
-    graph: &mut Graph,
+    graph: &mut GraphBuilder,
     last: &mut LastSource,
     version: Version,
     words: &[u8],
 ) -> Result<(), LineFault>
-    ensures { Makes (edge_item version (graph_of graph.old) (words_of words.now)) result
-        (graph_of graph.new) }
+    ensures { Makes (edge_item version (graph_built graph.old) (words_of words.now)) result
+        (graph_built graph.new) }
 {
-    let (x, y, letters) = match last.likely_names(graph, words) {
-        Some((x, y, rest)) => (x, y, one_word(rest)?),
-        None => {
-            let (source, target, letters) = three_words(words)?;
-            let x = name_at(source)?;
-            let y = name_at(target)?;
-            last.go_on(graph, x);
-            (x, y, letters)
-        }
-    };
+    let (source, target, letters) = three_words(words)?;
+    let x = name_at(source)?;
+    let y = name_at(target)?;
+    last.go_on(x);
     let rights = edge_rights_at(version, letters)?;
     add_edge(graph, x, y, rights)?;
     Ok(())
+}
+
+// Adds the edge of a line with these names, and says whether it was added. An edge that is at fault
+// is not.
+#[tactic(auto, unfolding(crate::specs::GraphText::edge_item))]
+fn add_likely_edge(
+    graph: &mut GraphBuilder,
+    version: Version,
+    x: Name,
+    y: Name,
+    letters: &[u8],
+) -> bool
+    requires { IsName x × IsName y }
+    ensures { MatchBool result
+        (edge_item version (graph_built graph.old) (x ∷ y ∷ letters.now ∷ []) ≡ Ok (graph_built graph.new))
+        (graph_built graph.new ≡ graph_built graph.old) }
+{
+    match edge_rights_at(version, letters) {
+        Ok(rights) => graph.add_edge(x, y, rights).is_ok(),
+        Err(_) => false,
+    }
 }
 
 // What the lines of a text make: the version with which it begins, once a line was read, and the
@@ -84,7 +105,7 @@ fn add_edge_line(
 #[derive(Drop)]
 pub(crate) struct GraphItems {
     begun: Option<Version>,
-    graph: Graph,
+    graph: GraphBuilder,
     // It decides no answer.
     last: LastSource,
 }
@@ -113,7 +134,7 @@ fn version_item(begun: Option<Version>, first: &[u8], rest: &[u8]) -> Result<Ver
 impl Items for GraphItems {
     ghost Made = { GraphSoFar };
 
-    ghost made = { λ items. (items.begun, graph_of items.graph) };
+    ghost made = { λ items. (items.begun, graph_built items.graph) };
 
     ghost item = { λ _. graph_item };
 
@@ -135,6 +156,31 @@ impl Items for GraphItems {
         self.begun = Some(version_item(self.begun, first, rest)?);
         Ok(())
     }
+
+    fn add_likely<'a>(&mut self, _line: usize, text: &'a [u8]) -> Option<&'a [u8]> {
+        let version = self.begun?;
+        let Some(line) = self.last.edge_line(&self.graph, text) else {
+            return None;
+        };
+        if add_likely_edge(&mut self.graph, version, line.0, line.1, line.2) {
+            Some(line.3)
+        } else {
+            None
+        }
+    }
+}
+
+impl GraphItems {
+    // What no lines make.
+    fn nothing(alloc: Global) -> GraphItems
+        ensures { (result.begun, graph_built result.graph) ≡ nothing_read }
+    {
+        GraphItems {
+            begun: None,
+            graph: GraphBuilder::over(alloc, Graph::new(alloc)),
+            last: LastSource::new(),
+        }
+    }
 }
 
 #[tactic(auto, unfolding(crate::specs::GraphText::graph_text))]
@@ -151,11 +197,10 @@ impl Items for GraphItems {
 pub fn read_graph(alloc: Global, text: &[u8]) -> Result<Graph, TextFault>
     ensures { Reads graph_of result (graph_text text.now) }
 {
-    let mut items = GraphItems {
-        begun: None,
-        graph: Graph::new(alloc),
-        last: LastSource::new(),
-    };
+    let mut items = GraphItems::nothing(alloc);
     read_lines(&mut items, text)?;
-    Ok(items.graph)
+    match items.graph.finish() {
+        Ok(graph) => Ok(graph),
+        Err(_) => Err(TextFault::Memory),
+    }
 }

@@ -14,6 +14,7 @@ mod limits;
 mod lines;
 #[cfg(test)]
 mod memory_tests;
+mod plain_lines;
 mod reading;
 mod rule_text;
 mod script_text;

@@ -1,8 +1,8 @@
 //! Reading a text line by line, up to the first fault.
-ghost use Rattle.std.specs.Prelude.{◌≡◌, ◌≤◌, ℕ, List, Result, ◌∷◌, IfOk, OnOk, length};
+ghost use Rattle.std.specs.Prelude.{◌≡◌, ◌≤◌, ℕ, List, Result, ◌∷◌, IfOk, OnOk, MatchOption, length};
 ghost use Rattle.tg_text.specs.declared.faults.TextKind.{TextKind};
 ghost use Rattle.tg_text.specs.Lines.{lines_of, words_of};
-ghost use Rattle.tg_text.specs.Reading.{Makes, MakesAll, after_line, after_lines};
+ghost use Rattle.tg_text.specs.Reading.{Makes, MakesAll, MakesFirst, after_line, after_lines};
 
 use crate::faults::{LineFault, TextFault};
 use crate::lines::{content, cut_line};
@@ -26,6 +26,14 @@ pub(crate) trait Items {
         ensures made { Makes (item line (made self.old) (first.now ∷ words_of rest.now)) result
             (made self.new) }
         ensures sound { OnOk result (IsSound self.new) };
+
+    /// Adds what the first line of a text says, which has this number, where it is written as such
+    /// lines mostly are, and gives what stands behind it. Otherwise nothing is added.
+    fn add_likely<'a>(&mut self, line: usize, text: &'a [u8]) -> Option<&'a [u8]>
+        requires { IsSound self.old }
+        ensures made { MatchOption result (made self.new ≡ made self.old)
+            (λ rest. MakesFirst (item line) (made self.old) text.now (made self.new) rest.now) }
+        ensures sound { IsSound self.new };
 }
 
 fn add_line<T: Items>(items: &mut T, line: usize, bytes: &[u8]) -> Result<(), LineFault>
@@ -53,12 +61,17 @@ pub(crate) fn read_lines<T: Items>(items: &mut T, text: &[u8]) -> Result<usize, 
     let mut rest = text;
     let mut line = 0;
     while !rest.is_empty() {
-        let (bytes, after) = cut_line(rest);
         line += 1;
-        if let Err(fault) = add_line(items, line, bytes) {
-            return Err(fault.on_line(line));
-        }
-        rest = after;
+        rest = match items.add_likely(line, rest) {
+            Some(after) => after,
+            None => {
+                let (bytes, after) = cut_line(rest);
+                if let Err(fault) = add_line(items, line, bytes) {
+                    return Err(fault.on_line(line));
+                }
+                after
+            },
+        };
     }
     Ok(line)
 }

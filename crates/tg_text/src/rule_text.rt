@@ -1,15 +1,17 @@
 //! The text of rules.
-ghost use Rattle.std.specs.Prelude.{◌≡◌, ◌∷◌, List, IfOk, OnOk};
+ghost use Rattle.std.specs.Prelude.{◌≡◌, ◌∷◌, List, IfOk, OnOk, MatchOption, length, nat_le};
 ghost use Rattle.tg_graph.specs.Sets.{IsNamed};
 ghost use Rattle.tg_graph.specs.Rules.{rights_of};
 ghost use Rattle.tg_text.specs.declared.rule_text.RuleLine.{RuleLine};
+ghost use Rattle.tg_text.specs.Limits.{most_rules};
 ghost use Rattle.tg_text.specs.Lines.{words_of};
-ghost use Rattle.tg_text.specs.Reading.{Makes, Reads};
+ghost use Rattle.tg_text.specs.Reading.{Makes, MakesFirst, Reads};
 ghost use Rattle.tg_text.specs.RuleText.{two_names, three_names, rule_of_words, rule_of_line, rule_item, rules_text, AreNamedLines};
 
 use crate::faults::{LineFault, TextFault, TextKind};
 use crate::limits::{MOST_LINE_BYTES, MOST_RULES};
 use crate::lines::cut_word;
+use crate::plain_lines::cut_rule;
 use crate::reading::{Items, read_lines};
 use crate::words::{four_words, name_at, rights_at, three_words};
 use std::alloc::Global;
@@ -93,6 +95,13 @@ pub fn read_rule(line: &[u8]) -> Result<Rule, TextKind>
     rule_of_words(first, rest)
 }
 
+// Whether no further rule may come.
+fn is_full(rules: &[RuleLine]) -> bool
+    ensures { result ≡ nat_le most_rules (length rules.now) }
+{
+    rules.len() >= MOST_RULES
+}
+
 // Adds the rule of a line that is not skipped.
 #[tactic(auto, unfolding(crate::specs::RuleText::rule_line, crate::specs::RuleText::rule_item))]
 fn add_rule(
@@ -107,11 +116,32 @@ fn add_rule(
     ensures named { OnOk result (AreNamedLines rules.new.items) }
 {
     let rule = rule_of_words(first, rest)?;
-    if rules.len() >= MOST_RULES {
+    if is_full(rules.as_slice()) {
         return Err(LineFault::Kind(TextKind::TooMany));
     }
     rules.push(RuleLine { line, rule })?;
     Ok(())
+}
+
+// Adds the rule of the first line of a text, where it is written with single spaces and there is room
+// for it, and gives what stands behind it.
+fn add_plain_rule<'a>(rules: &mut Vec<RuleLine>, line: usize, text: &'a [u8]) -> Option<&'a [u8]>
+    requires { AreNamedLines rules.old.items }
+    ensures made { MatchOption result (rules.new.items ≡ rules.old.items)
+        (λ rest. MakesFirst (rule_item line) rules.old.items text.now rules.new.items rest.now) }
+    ensures named { AreNamedLines rules.new.items }
+{
+    let Some(found) = cut_rule(text) else {
+        return None;
+    };
+    if is_full(rules.as_slice()) {
+        return None;
+    }
+    let rule = found.0;
+    match rules.push(RuleLine { line, rule }) {
+        Ok(()) => Some(found.2),
+        Err(_) => None,
+    }
 }
 
 impl Items for Vec<RuleLine> {
@@ -125,6 +155,10 @@ impl Items for Vec<RuleLine> {
 
     fn add(&mut self, line: usize, first: &[u8], rest: &[u8]) -> Result<(), LineFault> {
         add_rule(self, line, first, rest)
+    }
+
+    fn add_likely<'a>(&mut self, line: usize, text: &'a [u8]) -> Option<&'a [u8]> {
+        add_plain_rule(self, line, text)
     }
 }
 

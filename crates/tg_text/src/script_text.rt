@@ -209,6 +209,10 @@ impl Items for ScriptItems {
         }
         Ok(())
     }
+
+    fn add_likely<'a>(&mut self, _line: usize, _text: &'a [u8]) -> Option<&'a [u8]> {
+        None
+    }
 }
 
 #[tactic(auto, unfolding(crate::specs::ScriptText::script_text))]

@@ -94,12 +94,17 @@ fn each_rule(rt: HostRuntime) -> Result<(), Fail> {
 #[test]
 fn rules_with_their_lines(rt: HostRuntime) -> Result<(), Fail> {
     let [take, grant, create, remove] = rules(Rights::of(Right::R))?;
-    let text = b"# x\n\ntake a b c r\ngrant a b c r\n\r\ncreate a b r\nremove a b r";
-    let read = read_rules(rt.alloc(), text)?;
-    let wanted = [(3, take), (4, grant), (6, create), (7, remove)];
-    assert!(rt; read.len() == 4);
-    for (found, (line, rule)) in read.iter().zip(wanted) {
-        assert!(rt; found.line == line && found.rule == rule);
+    for text in [
+        b"# x\n\ntake a b c r\ngrant a b c r\n\r\ncreate a b r\nremove a b r".as_slice(),
+        b"# x\n\ntake\ta b c r\n grant a b c r\n\r\ncreate a  b r\nremove a b r\r\n".as_slice(),
+        b"# x\n\ntake a b c r \ngrant a b c\tr\n\r\ncreate a b r\r\nremove a b r\n".as_slice(),
+    ] {
+        let read = read_rules(rt.alloc(), text)?;
+        assert!(rt; read.len() == 4);
+        let wanted = [(3, take), (4, grant), (6, create), (7, remove)];
+        for (found, (line, rule)) in read.iter().zip(wanted) {
+            assert!(rt; found.line == line && found.rule == rule);
+        }
     }
     Ok(())
 }

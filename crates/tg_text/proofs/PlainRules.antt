@@ -1,0 +1,67 @@
+-- The line of a rule that is written with single spaces, at the front of a text.
+use Rattle.std.proofs.Common.{◌≡◌, ℕ, ◌≤◌, false, nat_le, if◌then◌else◌, List, [], ◌∷◌, ◌++◌, length, codes, Some, Ok, Err, refl, ap, ◌∙◌, arith}
+use Rattle.std.specs.List.{AllByRecursion}
+use Rattle.std.proofs.lemmas.List.{length-append}
+use Rattle.tg_graph.specs.declared.rules.Rule.{Rule}
+use Rattle.tg_graph.specs.declared.rules.Rule.TheVariants.{Take, Grant, Create, Remove}
+use Rattle.tg_graph.specs.Letters.{set_of_letters}
+use Rattle.tg_graph.specs.Rules.{rights_of}
+use Rattle.tg_graph.specs.RuleWords.{IsRule}
+use Rattle.tg_text.specs.declared.faults.TextKind.TheVariants.{BadRights, TooMany}
+use Rattle.tg_text.specs.declared.rule_text.RuleLine.{RuleLine}
+use Rattle.tg_text.specs.Canonical.{line_of}
+use Rattle.tg_text.specs.Limits.{most_line_bytes, most_rules}
+use Rattle.tg_text.specs.Lines.{lines_of, is_skipped}
+use Rattle.tg_text.specs.Reading.{◌>>=◌, MakesFirst, with_item}
+use Rattle.tg_text.specs.RuleText.{words_with, rule_line, rule_item}
+use Rattle.tg_text.specs.Spelling.{spaced}
+use Rattle.tg_text.specs.Words.{Word, value_or}
+use Rattle.tg_text.proofs.PlainWords.{IsPlainWord, word_from_test, name_word, lines-spaced, line-is}
+use Rattle.tg_text.proofs.LikelyLines.{set_word}
+use Rattle.tg_text.proofs.RuleBack.{words_with-read, length-more}
+
+plain-words : (rule : Rule) (letters : Word) → IsRule rule → IsPlainWord letters → AllByRecursion IsPlainWord (words_with rule letters)
+plain-words (Take x y z s) letters (p, q, r, n) l = (word_from_test (codes "take") refl refl, (name_word x p, (name_word y q, (name_word z r, (l, tt)))))
+plain-words (Grant x y z s) letters (p, q, r, n) l = (word_from_test (codes "grant") refl refl, (name_word x p, (name_word y q, (name_word z r, (l, tt)))))
+plain-words (Create x m s) letters (p, q, n) l = (word_from_test (codes "create") refl refl, (name_word x p, (name_word m q, (l, tt))))
+plain-words (Remove x y s) letters (p, q, n) l = (word_from_test (codes "remove") refl refl, (name_word x p, (name_word y q, (l, tt))))
+
+short : (rule : Rule) (letters : Word) → IsRule rule → length letters ≤ 7 → length (spaced (words_with rule letters)) ≤ most_line_bytes
+short (Take x y z s) letters (p, q, r, n) few =
+    omega (arith, few, length-more (codes "take") x (y ∷ z ∷ letters ∷ []), length-more x y (z ∷ letters ∷ []), length-more y z (letters ∷ []), length-more z letters [], p.within, q.within, r.within)
+short (Grant x y z s) letters (p, q, r, n) few =
+    omega (arith, few, length-more (codes "grant") x (y ∷ z ∷ letters ∷ []), length-more x y (z ∷ letters ∷ []), length-more y z (letters ∷ []), length-more z letters [], p.within, q.within, r.within)
+short (Create x m s) letters (p, q, n) few = omega (arith, few, length-more (codes "create") x (m ∷ letters ∷ []), length-more x m (letters ∷ []), length-more m letters [], p.within, q.within)
+short (Remove x y s) letters (p, q, n) few = omega (arith, few, length-more (codes "remove") x (y ∷ letters ∷ []), length-more x y (letters ∷ []), length-more y letters [], p.within, q.within)
+
+not_skipped : (rule : Rule) (letters : Word) → is_skipped (words_with rule letters) ≡ false
+not_skipped (Take x y z s) letters = refl
+not_skipped (Grant x y z s) letters = refl
+not_skipped (Create x m s) letters = refl
+not_skipped (Remove x y s) letters = refl
+
+module _ (n : ℕ) (rules : List RuleLine) (rule : Rule) (letters : Word) (i : IsRule rule) (e : set_of_letters letters ≡ Some (rights_of rule)) (few : length letters ≤ 7) (room : nat_le most_rules (length rules) ≡ false) where
+  abbrev words : List Word
+  words = words_with rule letters
+
+  abbrev more : List RuleLine
+  more = rules ++ record { line = n; rule = rule } ∷ []
+
+  plain_words : AllByRecursion IsPlainWord words
+  plain_words = plain-words rule letters i (set_word letters (rights_of rule) e)
+
+  line-made : rule_line n words ≡ Ok (record { line = n; rule = rule })
+  unfolding rule_line
+  line-made = ap (λ r. r >>= λ rule. Ok (record { line = n; rule = rule })) (words_with-read rule letters i (ap (value_or BadRights) e))
+
+  item-made : rule_item n rules words ≡ Ok more
+  unfolding rule_item
+  item-made = ap (with_item most_rules rules) line-made ∙ ap (λ b. if b then Err TooMany else Ok more) room
+
+  pub rule_first : (text rest : List ℕ) → text ≡ line_of words ++ rest → MakesFirst (rule_item n) rules text more rest
+  rule_first text rest t = record {
+    line = spaced words;
+    cut = ap lines_of t ∙ lines-spaced words rest plain_words;
+    shorter = omega (arith, ap length t, length-append (line_of words) rest, length-append (spaced words) (10 ∷ []));
+    made = line-is (rule_item n) rules words plain_words (short rule letters i few) (not_skipped rule letters) ∙ item-made;
+  }
