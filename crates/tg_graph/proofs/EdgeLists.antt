@@ -6,7 +6,7 @@ use Rattle.std.specs.Slice.{IsGetResult}
 use Rattle.std.proofs.lemmas.List.{get_or_append_left, length-append}
 use Rattle.std.proofs.lemmas.Option.{get_or_from_slice_get, slice_get_within, slice_get_past, slice_get-get_or}
 use Rattle.tg_graph.specs.declared.right_sets.Rights.{Rights}
-use Rattle.tg_graph.specs.declared.edge_list.Edge.{Edge}
+use Rattle.tg_graph.specs.declared.listed_edges.Edge.{Edge}
 use Rattle.tg_graph.specs.Graphs.{Name}
 use Rattle.tg_graph.specs.EdgeLists.{number_of, label_on, named, edges_of, AreWithin, Extends}
 

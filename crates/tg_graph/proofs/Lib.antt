@@ -15,7 +15,9 @@ pub mod RowsOf
 pub mod NewNames
 pub mod Drafts
 pub mod EdgeLists
+pub mod EdgesToAll
 pub mod DraftLaws
+pub mod NameLanes
 pub mod NameNumbers
 pub mod TakenOver
 pub mod Positions

@@ -1,11 +1,11 @@
 -- The name at the front of bytes.
-use Rattle.std.proofs.Common.{◌≡◌, ℕ, zero, suc, ◌+◌, ◌-◌, ◌<◌, ◌≤◌, ◌⊎◌, inl, inr, true, false, List, [], ◌∷◌, ◌++◌, length, take, replicate, get_or, slice_set, None, Some, sym, ap, subst, ◌∙◌, arith, if◌then◌else◌, true≢false}
+use Rattle.std.proofs.Common.{◌≡◌, ℕ, zero, suc, ◌+◌, ◌-◌, ◌<◌, ◌≤◌, ◌⊎◌, inl, inr, true, false, List, [], ◌∷◌, ◌++◌, length, take, replicate, get_or, slice_set, None, Some, Bool, ◌==◌, ◌&&◌, ◌||◌, nat_le, refl, sym, ap, subst, ◌∙◌, arith, if◌then◌else◌, true≢false}
 use Rattle.std.proofs.lemmas.Bool.{cases_lt}
 use Rattle.std.proofs.lemmas.List.{append_assoc, get_or-take, length-append, length-take, length-take-le}
 use Rattle.std.proofs.Math.Nat.{min-le_left}
 use Rattle.std.proofs.Math.Seq.{set-append_seam, take-suc, take-append_seam}
-use Rattle.tg_graph.specs.Names.{IsName, fits_at, first_bad, padded_to_16}
-use Rattle.tg_graph.proofs.NameLaws.{step_none}
+use Rattle.tg_graph.specs.Names.{AllFit, IsName, fits_at, first_bad, padded_to_16}
+use Rattle.tg_graph.proofs.NameLaws.{step_none, all_fit-none, inner}
 
 -- one more byte that fits
 one_more_fits : (k : ℕ) (bytes : List ℕ) (i : ℕ) → i < length bytes → first_bad k (take i bytes) ≡ None → fits_at (k + i) (get_or bytes i 0) ≡ true → first_bad k (take (suc i) bytes) ≡ None
@@ -59,3 +59,47 @@ one_more_padded bytes i l h = padded_on (take i bytes) i (get_or bytes i 0) (len
 -- the bytes in front of the zeros
 pub padded_front : (xs : List ℕ) (padded : List ℕ) (n : ℕ) → length xs ≡ n → padded ≡ padded_to_16 xs → take n padded ≡ xs
 padded_front xs padded n l e = ap (take n) e ∙ ap (λ m. take m (padded_to_16 xs)) (sym l) ∙ take-append_seam xs (replicate (16 - length xs) 0)
+
+-- ---- the first 16 bytes, looked at at once
+pub few_fit : (bytes : List ℕ) (len : ℕ) → 0 < len → len ≤ length bytes → fits_at 0 (get_or bytes 0 0) ≡ true → AllFit bytes len → first_bad 0 (take len bytes) ≡ None
+few_fit bytes len some within f h =
+    let size : length (take len bytes) ≡ len = length-take-le len bytes (omega (arith, within)) in
+    all_fit-none (take len bytes) (ap (fits_at 0) (get_or-take len bytes 0 0 some) ∙ f)
+    (λ k l. ap (fits_at 1) (get_or-take len bytes k 0 (omega (arith, l, size))) ∙ h k (omega (arith, l, size)))
+
+-- a byte that may stand nowhere behind another may not stand first
+pub nor_first : (b : ℕ) → fits_at 1 b ≡ false → fits_at 0 b ≡ false
+nor_first b h = by ((nat_le 97 b && nat_le b 122) || (b == 95)) (nat_le 48 b && nat_le b 57) h
+  where
+    by : (first behind : Bool) → (first || behind) ≡ false → (first || false) ≡ false
+    by true behind h = h
+    by false behind h = refl
+
+pub ends_behind : (bytes : List ℕ) (len : ℕ) → 0 < len → len ≤ 16 → (len < 16 → fits_at 1 (get_or bytes len 0) ≡ false) → (k : ℕ) → IsName (take k bytes) → length (take k bytes) ≤ len
+ends_behind bytes len some few stops k n = by (cases_lt len 16)
+  where
+    behind_first : (n b : ℕ) → 0 < n → fits_at n b ≡ fits_at 1 b
+    behind_first zero b l = absurd (omega arith)
+    behind_first (suc m) b l = inner m b
+
+    by : (len < 16) ⊎ (16 ≤ len) → length (take k bytes) ≤ len
+    by (inl l) = ends_there bytes len (behind_first len (get_or bytes len 0) some ∙ stops l) k n
+    by (inr l) = omega (arith, n.within, l)
+
+-- what stands in front of 16 bytes stands in front of all
+pub same_front : (n k : ℕ) (bytes : List ℕ) → length (take k bytes) ≤ n → take k (take n bytes) ≡ take k bytes
+same_front n zero bytes l = refl
+same_front zero (suc k) [] l = refl
+same_front (suc n) (suc k) [] l = refl
+same_front zero (suc k) (b ∷ bytes) l = absurd (omega arith)
+same_front (suc n) (suc k) (b ∷ bytes) l = ap (λ bs. b ∷ bs) (same_front n k bytes (omega arith))
+
+pub same_cut : (k : ℕ) (bytes : List ℕ) → k ≤ 16 → take k (take 16 bytes) ≡ take k bytes
+same_cut k bytes l =
+    let few : length (take k bytes) ≤ k = subst (λ m. m ≤ k) (sym (length-take k bytes)) (min-le_left k (length bytes)) in
+    same_front 16 k bytes (omega (arith, few, l))
+
+pub longest_in_front : (bytes : List ℕ) (len : ℕ) → ((k : ℕ) → IsName (take k (take 16 bytes)) → length (take k (take 16 bytes)) ≤ len) → (k : ℕ) → IsName (take k bytes) → length (take k bytes) ≤ len
+longest_in_front bytes len h k n =
+    let same = same_front 16 k bytes n.within in
+    subst (λ bs. length bs ≤ len) same (h k (subst IsName (sym same) n))

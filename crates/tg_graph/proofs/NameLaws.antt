@@ -13,7 +13,7 @@ use Rattle.tg_graph.specs.Names.{AllFit, fits_at, first_bad}
 use Rattle.tg_graph.specs.Laws.{IsLetter, IsDigit, IsNameByte, NamesExactly, PrefixFirst, DifferenceDecides}
 
 -- ---- bytes that all fit
-inner : (k b : ℕ) → fits_at (suc k) b ≡ fits_at 1 b
+pub inner : (k b : ℕ) → fits_at (suc k) b ≡ fits_at 1 b
 inner k b = ap (λ t. (nat_le 97 b && nat_le b 122) || (b == 95) || (t && nat_le 48 b && nat_le b 57)) (lt-ltb 0 (suc k) (omega arith))
 
 fit_on : (bytes : List ℕ) (k : ℕ) → AllFit bytes (length bytes) → first_bad (suc k) bytes ≡ None

@@ -105,6 +105,10 @@ pub on_err_from : {T E P : Type 0} (r : Result T E) → P → OnErr r P
 on_err_from (Ok x) p = tt
 on_err_from (Err e) p = p
 
+pub on_either : {T E P Q G : Type 0} (r : Result T E) → (P → G) → (Q → G) → OnOk r P → OnErr r Q → G
+on_either (Ok x) f g p q = f p
+on_either (Err e) f g p q = g q
+
 pub target_from_label : (row : Edges) (y : List ℕ) → 0 < (label_in row y).0 → is_target row y ≡ true
 target_from_label row y = by (lookup (bytes_eq y) row)
   where

@@ -3,7 +3,7 @@ use Rattle.std.specs.Prelude.{◌≡◌, ℕ, ◌<◌, ◌/◌, ◌%◌, length,
 use Rattle.std.specs.List.{AllByRecursion}
 use Rattle.tg_graph.specs.declared.right_sets.Rights.{Rights}
 use Rattle.tg_graph.specs.declared.targets.Targets.{Targets}
-use Rattle.tg_graph.specs.declared.edge_list.Edge.{Edge}
+use Rattle.tg_graph.specs.declared.listed_edges.Edge.{Edge}
 use Rattle.tg_graph.specs.Graphs.{Name}
 use Rattle.tg_graph.specs.Rows.{Edges}
 

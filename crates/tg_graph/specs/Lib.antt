@@ -15,6 +15,7 @@ pub mod RightsWords
 pub mod Laws
 pub mod Limits
 pub mod Drafts
+pub mod EdgeForms
 pub mod EdgeLists
 pub mod TakenRows
 pub mod Waiting

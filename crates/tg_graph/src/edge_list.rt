@@ -1,81 +1,38 @@
-//! The edges out of one vertex in a short form: four bytes for an edge whose target's name is shared.
-ghost use Rattle.std.specs.Prelude.{◌≡◌, ◌<◌, ◌≤◌, ◌+◌, [], ◌∷◌, ◌++◌, if◌then◌else◌, Some, IfOk, OnOk, OnErr, length, slice_get, slice_index_or, slice_set};
+//! The edges out of one vertex, in the shorter of two forms.
+ghost use Rattle.std.specs.Prelude.{◌≡◌, ◌<◌, ◌≤◌, [], ◌∷◌, ◌++◌, if◌then◌else◌, IfOk, OnOk, OnErr, length, slice_get, slice_index_or, slice_set};
 ghost use Rattle.std.specs.List.{insert, remove};
 ghost use Rattle.tg_graph.specs.declared.right_sets.Rights.{Rights};
-ghost use Rattle.tg_graph.specs.Sets.{IsNamed};
 
+use crate::edges_to_all::EdgesToAll;
+use crate::listed_edges::ListedEdges;
 use crate::names::Name;
 use crate::right_sets::Rights;
 use crate::shared_names::{Hint, SharedNames};
-use crate::targets::{Targets, shared_with};
-use bitflags::Flags;
 use std::alloc::{AllocError, Global};
 use std::marker::Model;
 
-// The numbers of targets are below this one, so that a label has eight bits beside them.
-const MOST_NUMBERS: usize = 16_777_216;
-
-// How many names of their own a list's edges may leave behind before they are gathered anew.
-const SPARE_NAMES: usize = 8;
-
-/// The number of a target, with eight bits for the label behind it.
-#[derive(Clone, Copy)]
-struct Edge {
-    bits: u32,
-}
-
-impl Edge {
-    ghost use Rattle.tg_graph.specs.EdgeLists.{number_of, label_on};
-
-    fn new(number: usize, label: Rights) -> Edge
-        requires { number < MOST_NUMBERS }
-        ensures number { number_of result ≡ number }
-        ensures label { label_on result ≡ label }
-    {
-        Edge {
-            bits: number as u32 * 256 + u32::from(label.bits()),
-        }
-    }
-
-    fn with_label(self, label: Rights) -> Edge
-        ensures number { number_of result ≡ number_of self }
-        ensures label { label_on result ≡ label }
-    {
-        Edge {
-            bits: self.bits / 256 * 256 + u32::from(label.bits()),
-        }
-    }
-
-    fn number(self) -> usize
-        ensures { result ≡ number_of self }
-    {
-        (self.bits / 256) as usize
-    }
-
-    fn label(self) -> Rights
-        ensures { result ≡ label_on self }
-    {
-        Rights::from_bits_retain((self.bits % 256) as u8)
-    }
+// The form that a list is in.
+#[derive(Drop)]
+enum Form {
+    Listed(ListedEdges),
+    ToAll(EdgesToAll),
 }
 
 /// A list of edges, each with its target and label.
 #[derive(Drop)]
 pub struct EdgeList {
-    targets: Targets,
-    edges: Vec<Edge>,
+    form: Form,
 }
 
 impl Model for EdgeList {
     ghost use Rattle.std.specs.Prelude.{List, ℕ};
     ghost use Rattle.tg_graph.specs.declared.right_sets.Rights.{Rights};
-    ghost use Rattle.tg_graph.specs.EdgeLists.{names_of, edges_of, AreWithin};
 
     ghost Value = { List (List ℕ × Rights) };
 
-    ghost view = { λ l. edges_of (names_of l.targets) l.edges.items };
+    ghost use Rattle.tg_graph.specs.EdgeForms.{edges_in};
 
-    ghost invariant = { λ l. AreWithin (names_of l.targets) l.edges.items };
+    ghost view = { λ l. edges_in l.form };
 }
 
 impl Clone for EdgeList {
@@ -84,10 +41,11 @@ impl Clone for EdgeList {
     ghost is_clone = { λ list copy. copy ≡ list };
 
     fn clone(&self) -> Result<EdgeList, AllocError> {
-        Ok(EdgeList {
-            targets: self.targets.clone()?,
-            edges: Vec::from_slice(*self.edges.allocator(), self.edges.as_slice())?,
-        })
+        let form = match &self.form {
+            Form::Listed(edges) => Form::Listed(edges.clone()?),
+            Form::ToAll(edges) => Form::ToAll(edges.clone()?),
+        };
+        Ok(EdgeList { form })
     }
 }
 
@@ -99,8 +57,7 @@ impl EdgeList {
         ensures { result ≡ [] }
     {
         EdgeList {
-            targets: Targets::new(alloc, names),
-            edges: Vec::new(alloc),
+            form: Form::Listed(ListedEdges::new(alloc, names)),
         }
     }
 
@@ -108,26 +65,29 @@ impl EdgeList {
     pub fn len(&self) -> usize
         ensures { result ≡ length self.now }
     {
-        self.edges.len()
+        match &self.form {
+            Form::Listed(edges) => edges.len(),
+            Form::ToAll(edges) => edges.len(),
+        }
     }
 
     /// The edge at a place.
     pub fn at(&self, place: usize) -> Option<(Name, Rights)>
         ensures { result ≡ slice_get self.now place }
     {
-        let edge = self.edges.get(place).copied()?;
-        let name = self.targets.at(edge.number())?;
-        Some((name, edge.label()))
+        match &self.form {
+            Form::Listed(edges) => edges.at(place),
+            Form::ToAll(edges) => edges.at(place),
+        }
     }
 
     /// Where the edge to a vertex is, in name order, if there is one to each of the shared names. It
     /// decides no answer.
     pub fn place_among_all(&self, target: Name) -> Option<usize> {
-        let names = self.targets.shared()?;
-        if self.edges.len() < names.len() {
-            return None;
+        match &self.form {
+            Form::Listed(edges) => edges.place_among_all(target),
+            Form::ToAll(edges) => edges.likely_place(target),
         }
-        names.likely_rank(target)
     }
 
     /// The target of the edge at a place.
@@ -135,10 +95,10 @@ impl EdgeList {
         requires { place < length self.now }
         ensures { (d : List ℕ × Rights) → result ≡ (slice_index_or self.now place d).0 }
     {
-        let Some(name) = self.targets.at(self.edges[place].number()) else {
-            unreachable!();
-        };
-        name
+        match &self.form {
+            Form::Listed(edges) => edges.target(place),
+            Form::ToAll(edges) => edges.target(place),
+        }
     }
 
     /// The label of the edge at a place.
@@ -146,7 +106,10 @@ impl EdgeList {
         requires { place < length self.now }
         ensures { (d : List ℕ × Rights) → result ≡ (slice_index_or self.now place d).1 }
     {
-        self.edges[place].label()
+        match &self.form {
+            Form::Listed(edges) => edges.label(place),
+            Form::ToAll(edges) => edges.label(place),
+        }
     }
 
     /// Writes the label of the edge at a place.
@@ -154,21 +117,10 @@ impl EdgeList {
         requires { place < length self.old }
         ensures { (d : List ℕ × Rights) → self.new ≡ slice_set self.old place ((slice_index_or self.old place d).0, label) }
     {
-        self.edges[place] = self.edges[place].with_label(label);
-    }
-
-    // Puts an edge in at a place.
-    fn put(&mut self, place: usize, edge: (Name, Rights), hint: Hint) -> Result<(), AllocError>
-        requires { place ≤ length self.old }
-        ensures put { OnOk result (self.new ≡ insert self.old place edge) }
-        ensures err { OnErr result (self.new ≡ self.old) }
-    {
-        let number = self.targets.number_for(edge.0, hint)?;
-        if number >= MOST_NUMBERS {
-            return Err(AllocError);
+        match &mut self.form {
+            Form::Listed(edges) => edges.set_label(place, label),
+            Form::ToAll(edges) => edges.set_label(place, label),
         }
-        self.edges.insert(place, Edge::new(number, edge.1))?;
-        Ok(())
     }
 
     /// The same edges, whose targets have numbers among these names where they had them among
@@ -180,31 +132,28 @@ impl EdgeList {
     ) -> Result<EdgeList, AllocError>
         ensures { IfOk result (λ list. list ≡ self.now) }
     {
-        let mut list = EdgeList::new(alloc, shared_with(names)?);
-        list.edges.reserve(self.edges.len())?;
-        for place in 0..self.edges.len() {
-            let number = self.edges[place].number();
-            if let Some(edge) = self.at(place) {
-                let hint = Hint {
-                    names,
-                    number: Some(number),
-                };
-                list.put(place, edge, hint)?;
-            }
-        }
+        let edges = match &self.form {
+            Form::Listed(edges) => edges.moved_to(alloc, names)?,
+            Form::ToAll(edges) => edges.listed(alloc, names)?,
+        };
+        let mut list = EdgeList {
+            form: Form::Listed(edges),
+        };
+        list.shorten();
         Ok(list)
     }
 
-    // Gathers the edges anew where most of their own names are of edges that were taken away.
-    fn tidy(&mut self) -> Result<(), AllocError>
+    /// Takes the shorter form where there is an edge to each of the shared names and to no other.
+    /// Where memory is refused, the longer one stays.
+    pub fn shorten(&mut self)
         ensures { self.new ≡ self.old }
     {
-        let used = self.edges.len().saturating_add(SPARE_NAMES);
-        if self.targets.own_len() / 2 > used {
-            let alloc = *self.edges.allocator();
-            *self = self.moved_to(alloc, self.targets.shared())?;
+        let Form::Listed(edges) = &self.form else {
+            return;
+        };
+        if let Some(edges) = EdgesToAll::of(edges) {
+            self.form = Form::ToAll(edges);
         }
-        Ok(())
     }
 
     /// Puts an edge in at a place.
@@ -218,8 +167,15 @@ impl EdgeList {
         ensures put { OnOk result (self.new ≡ insert self.old place edge) }
         ensures err { OnErr result (self.new ≡ self.old) }
     {
-        self.tidy()?;
-        self.put(place, edge, hint)
+        match &mut self.form {
+            Form::Listed(edges) => edges.insert(place, edge, hint),
+            Form::ToAll(edges) => {
+                let mut listed = edges.expanded()?;
+                listed.put(place, edge, hint)?;
+                self.form = Form::Listed(listed);
+                Ok(())
+            }
+        }
     }
 
     /// Puts an edge behind the others where the number is that of its target, and says whether it
@@ -229,18 +185,27 @@ impl EdgeList {
             (λ pushed. self.new ≡ (if pushed then self.old ++ (target, label) ∷ [] else self.old)) }
         ensures err { OnErr result (self.new ≡ self.old) }
     {
-        if number >= MOST_NUMBERS || !self.targets.is_at(number, target) {
-            return Ok(false);
+        match &mut self.form {
+            Form::Listed(edges) => edges.push(target, label, number),
+            Form::ToAll(_) => Ok(false),
         }
-        self.edges.push(Edge::new(number, label))?;
-        Ok(true)
     }
 
-    /// Takes the edge at a place away.
-    pub fn remove(&mut self, place: usize)
+    /// Takes the edge at a place away. It fails where memory is refused, as the longer form may be
+    /// needed.
+    pub fn remove(&mut self, place: usize) -> Result<(), AllocError>
         requires { place < length self.old }
-        ensures { self.new ≡ remove self.old place }
+        ensures removed { OnOk result (self.new ≡ remove self.old place) }
+        ensures err { OnErr result (self.new ≡ self.old) }
     {
-        self.edges.remove(place);
+        match &mut self.form {
+            Form::Listed(edges) => edges.remove(place),
+            Form::ToAll(edges) => {
+                let mut listed = edges.expanded()?;
+                listed.remove(place);
+                self.form = Form::Listed(listed);
+            }
+        }
+        Ok(())
     }
 }

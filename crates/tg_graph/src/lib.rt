@@ -13,11 +13,13 @@ mod draft_memory_tests;
 #[cfg(test)]
 mod draft_tests;
 mod edge_list;
+mod edges_to_all;
 #[cfg(test)]
 mod famine_tests;
 mod labels;
 pub mod laws;
 mod limits;
+mod listed_edges;
 #[cfg(test)]
 mod memory_tests;
 mod names;

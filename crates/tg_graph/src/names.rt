@@ -1,5 +1,5 @@
 //! Names of vertices.
-ghost use Rattle.std.specs.Prelude.{◌≡◌, ◌≤◌, ◌<◌, ◌+◌, ℕ, true, Some, None, MatchOption, [], ◌∷◌, refl, length, bytes_eq, take, drop, decimal};
+ghost use Rattle.std.specs.Prelude.{◌≡◌, ◌≤◌, ◌<◌, ◌+◌, ℕ, true, Some, None, MatchOption, [], ◌∷◌, refl, length, bytes_eq, get_or, false, take, drop, decimal};
 ghost use Rattle.std.specs.Ordering.{nat_cmp};
 ghost use Rattle.std.specs.Slice.Scan.{big_endian};
 ghost use Rattle.std.specs.Cmp.{partial_equiv_from_equiv};
@@ -10,6 +10,7 @@ ghost use Rattle.tg_graph.specs.Names.{AllFit, IsName, IsLongestName, name_of, f
 use std::cmp::Ordering;
 use std::hash::{Hash, Hasher};
 use std::marker::Model;
+use std::simd::prelude::*;
 
 /// Why bytes are no name. Where several faults are there, the first of this list is meant.
 #[derive(Clone, Copy, PartialEq, Eq, Debug)]
@@ -106,7 +107,69 @@ fn padded(bytes: &[u8]) -> [u8; 16]
     (number_spelled(bytes) << (8 * zeros)).to_be_bytes()
 }
 
+// How many of the bytes, from the first on, may each stand behind another. All 16 are looked at at once.
+#[inline(always)]
+fn fitting(bytes: &[u8; 16]) -> usize
+    ensures few { result ≤ 16 }
+    ensures fit { AllFit bytes.now result }
+    ensures stops { result < 16 → fits_at 1 (get_or bytes.now result 0) ≡ false }
+{
+    let lanes = u8x16::from_array(*bytes);
+    let are_letters = (lanes - u8x16::splat(b'a')).simd_lt(u8x16::splat(26));
+    let are_digits = (lanes - u8x16::splat(b'0')).simd_lt(u8x16::splat(10));
+    let fit = are_letters | are_digits | lanes.simd_eq(u8x16::splat(b'_'));
+    fit.to_bitmask().trailing_ones() as usize
+}
+
+// As many of the bytes, and zeros up to 16 bytes.
+#[inline(always)]
+fn cut_to(bytes: &[u8; 16], len: usize) -> [u8; 16]
+    requires { len ≤ 16 }
+    ensures { result ≡ padded_to_16 (take len bytes.now) }
+{
+    let places = u8x16::from_array([0, 1, 2, 3, 4, 5, 6, 7, 8, 9, 10, 11, 12, 13, 14, 15]);
+    let are_kept = places.simd_lt(u8x16::splat(len as u8));
+    let kept = are_kept.select(u8x16::from_array(*bytes), u8x16::splat(0));
+    kept.to_array()
+}
+
+// The longest name at the front of 16 bytes, padded, and how many bytes it has: none where no name
+// stands there.
+#[inline(always)]
+fn front_of_16(bytes: &[u8; 16]) -> ([u8; 16], usize)
+    ensures few { result.1 ≤ 16 }
+    ensures padded { result.0 ≡ padded_to_16 (take result.1 bytes.now) }
+    ensures fit { first_bad 0 (take result.1 bytes.now) ≡ None }
+    ensures longest { (k : ℕ) → IsName (take k bytes.now) → length (take k bytes.now) ≤ result.1 }
+{
+    let len = fitting(bytes);
+    if len == 0 || !fits_at(0, bytes[0]) {
+        return ([0; 16], 0);
+    }
+    (cut_to(bytes, len), len)
+}
+
+// The same of few bytes.
+fn front_of_few(bytes: &[u8]) -> ([u8; 16], usize)
+    requires { length bytes.now < 16 }
+    ensures within { result.1 ≤ length bytes.now }
+    ensures padded { result.0 ≡ padded_to_16 (take result.1 bytes.now) }
+    ensures fit { first_bad 0 (take result.1 bytes.now) ≡ None }
+    ensures longest { (k : ℕ) → IsName (take k bytes.now) → length (take k bytes.now) ≤ result.1 }
+{
+    let mut padded = [0; 16];
+    for i in 0..bytes.len() {
+        let byte = bytes[i];
+        if !fits_at(i, byte) {
+            return (padded, i);
+        }
+        padded[i] = byte;
+    }
+    (padded, bytes.len())
+}
+
 // The longest name at the front, padded, and how many bytes it has: none where no name stands there.
+#[inline(always)]
 fn front(bytes: &[u8]) -> ([u8; 16], usize)
     ensures within { result.1 ≤ length bytes.now }
     ensures few { result.1 ≤ 16 }
@@ -114,16 +177,10 @@ fn front(bytes: &[u8]) -> ([u8; 16], usize)
     ensures fit { first_bad 0 (take result.1 bytes.now) ≡ None }
     ensures longest { (k : ℕ) → IsName (take k bytes.now) → length (take k bytes.now) ≤ result.1 }
 {
-    let mut padded = [0; 16];
-    let most = bytes.len().min(16);
-    for i in 0..most {
-        let byte = bytes[i];
-        if !fits_at(i, byte) {
-            return (padded, i);
-        }
-        padded[i] = byte;
+    match bytes.first_chunk::<16>() {
+        Some(first) => front_of_16(first),
+        None => front_of_few(bytes),
     }
-    (padded, most)
 }
 
 // Writes the number in decimal so that it ends with the text, and gives the place of its first
@@ -164,6 +221,7 @@ impl Name {
 
     /// The longest name that stands at the front of the bytes, and what stands behind it; nothing where
     /// no name stands there.
+    #[inline(always)]
     pub fn at_front(bytes: &[u8]) -> Option<(Name, &[u8])>
         ensures { MatchOption result
             ((k : ℕ) → IsName (take k bytes.now) → ⊥)

@@ -57,25 +57,27 @@ impl Model for Graph {
     ghost invariant = { λ g. IsGraph g.rows.entries };
 }
 
-// Adds rights to the label of an edge.
+// Adds rights to the label of an edge out of the vertex x, which stands at the position.
 fn widen(
     rows: &mut IndexMap<Name, SharedRow>,
+    source: usize,
     x: Name,
     y: Name,
     rights: Rights,
     hint: Hint,
 ) -> Result<(), AllocError>
     requires named { IsNamed rights }
-    requires known { is_known rows.old.entries x ≡ true }
+    requires source { slice_get (keys_of rows.old.entries) source ≡ Some x }
     ensures widened { OnOk result
         (ChangesRow (λ a b. Adds a b y rights) rows.old.entries rows.new.entries x) }
     ensures err { OnErr result (rows.new.entries ≡ rows.old.entries) }
     ensures room { spare rows.new ≡ spare rows.old }
 {
-    match rows.get_mut(&x) {
-        Some(row) => row.add(y, rights, hint),
-        None => Ok(()),
-    }
+    let Some(row) = rows.get_index_mut(source) else {
+        return Ok(());
+    };
+    row.add(y, rights, hint)?;
+    Ok(())
 }
 
 /// Why a vertex was not added.
@@ -126,8 +128,11 @@ impl Rows for Graph {
     ghost entries = { λ g. g };
 
     fn row(&self, x: Name) -> Option<&Row> {
-        match self.rows.get(&x) {
-            Some(row) => Some(row.edges()),
+        let Some(place) = self.position_near(self.source, x) else {
+            return None;
+        };
+        match self.rows.get_index(place) {
+            Some((_, row)) => Some(row.edges()),
             None => None,
         }
     }
@@ -267,11 +272,14 @@ impl Graph {
             (graph_of self.new ≡ with_rights (graph_of self.old) x y rights) }
         ensures err { OnErr result (self.new ≡ self.old) }
     {
+        let Some(source) = self.position_near(self.source, x) else {
+            return Ok(());
+        };
         let hint = Hint {
             names: self.names.as_ref(),
             number: None,
         };
-        widen(&mut self.rows, x, y, rights, hint)?;
+        widen(&mut self.rows, source, x, y, rights, hint)?;
         Ok(())
     }
 
@@ -334,6 +342,9 @@ impl Graph {
             (graph_of self.new ≡ with_rights (with_vertex (graph_of self.old) n) x n rights) }
         ensures err { OnErr result (self.new ≡ self.old) }
     {
+        let Some(source) = self.position_near(self.source, x) else {
+            return Ok(());
+        };
         // The bytes of a `Name` are a name, as those of each vertex must be.
         let _ = n.as_bytes();
         let row = SharedRow::new(self.alloc)?;
@@ -342,7 +353,7 @@ impl Graph {
             names: self.names.as_ref(),
             number: Some(self.rows.len()),
         };
-        widen(&mut self.rows, x, n, rights, hint)?;
+        widen(&mut self.rows, source, x, n, rights, hint)?;
         row_maps::put(&mut self.rows, n, row);
         Ok(())
     }
@@ -366,7 +377,10 @@ impl Graph {
             (graph_of self.new ≡ without_rights (graph_of self.old) x y rights) }
         ensures err { OnErr result (self.new ≡ self.old) }
     {
-        let Some(row) = self.rows.get_mut(&x) else {
+        let Some(source) = self.position_near(self.source, x) else {
+            return Ok(());
+        };
+        let Some(row) = self.rows.get_index_mut(source) else {
             return Ok(());
         };
         row.take(y, rights)?;

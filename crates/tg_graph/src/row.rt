@@ -73,6 +73,13 @@ impl Row {
         })
     }
 
+    /// Takes less memory where there is an edge to each of the shared names and to no other.
+    pub fn shorten(&mut self)
+        ensures { self.new ≡ self.old }
+    {
+        self.edges.shorten();
+    }
+
     /// How many edges there are.
     pub fn len(&self) -> usize
         ensures value { result ≡ length self.now }
@@ -242,12 +249,13 @@ impl Row {
     }
 
     // Takes the edge to y away, which is at the place.
-    fn cut(&mut self, place: usize, y: Name)
+    fn cut(&mut self, place: usize, y: Name) -> Result<(), AllocError>
         requires { IsPlaceOf self.old y place }
-        ensures puts { Puts self.old self.new y None }
+        ensures puts { OnOk result (Puts self.old self.new y None) }
+        ensures err { OnErr result (self.new ≡ self.old) }
         ensures row { IsRow self.new }
     {
-        self.edges.remove(place);
+        self.edges.remove(place)
     }
 
     /// Adds rights to the label of the edge to a vertex.
@@ -273,19 +281,21 @@ impl Row {
     }
 
     /// Takes rights out of the label of the edge to a vertex.
-    pub fn take(&mut self, y: Name, rights: Rights)
+    pub fn take(&mut self, y: Name, rights: Rights) -> Result<(), AllocError>
         requires { IsNamed rights }
-        ensures taken { TakesAway self.old self.new y rights }
+        ensures taken { OnOk result (TakesAway self.old self.new y rights) }
+        ensures err { OnErr result (self.new ≡ self.old) }
         ensures row { IsRow self.new }
     {
         let Ok(place) = self.place(y) else {
-            return;
+            return Ok(());
         };
         let left = Flags::difference(self.label_at(place, y), rights);
         if left.is_empty() {
-            self.cut(place, y);
+            self.cut(place, y)?;
         } else {
             self.write(place, y, left);
         }
+        Ok(())
     }
 }

@@ -20,9 +20,9 @@ struct Slot {
 #[derive(Drop)]
 struct NameTable {
     names: Vec<Name>,
-    // Each name with its number, in name order.
-    in_order: Vec<(Name, usize)>,
-    // The numbers in the same order, close together.
+    // The names in name order.
+    in_order: Arc<Vec<Name>>,
+    // Their numbers, in the same order.
     numbers: Vec<u32>,
     // A name whose slot has another's is looked for in the order, so that no choice of names makes a
     // look-up dear.
@@ -57,22 +57,24 @@ impl Clone for SharedNames {
 }
 
 // Names with their numbers, in name order.
-fn in_order(alloc: Global, names: &[Name]) -> Result<Vec<(Name, usize)>, AllocError> {
-    let mut in_order = Vec::with_capacity(alloc, names.len())?;
+fn numbered(alloc: Global, names: &[Name]) -> Result<Vec<(Name, u32)>, AllocError> {
+    let mut numbered = Vec::with_capacity(alloc, names.len())?;
     for (number, name) in names.iter().enumerate() {
-        in_order.push((*name, number))?;
+        numbered.push((*name, u32::try_from(number).unwrap_or(0)))?;
     }
-    in_order.sort_unstable_by_key(|&(name, _)| name);
-    Ok(in_order)
+    numbered.sort_unstable_by_key(|&(name, _)| name);
+    Ok(numbered)
 }
 
-// Their numbers, in the same order.
-fn numbers_of(alloc: Global, in_order: &[(Name, usize)]) -> Result<Vec<u32>, AllocError> {
-    let mut numbers = Vec::with_capacity(alloc, in_order.len())?;
-    for (_, number) in in_order {
-        numbers.push(u32::try_from(*number).unwrap_or(0))?;
+// Names in name order, and their numbers in the same order.
+fn in_order(alloc: Global, names: &[Name]) -> Result<(Vec<Name>, Vec<u32>), AllocError> {
+    let mut in_order = Vec::with_capacity(alloc, names.len())?;
+    let mut numbers = Vec::with_capacity(alloc, names.len())?;
+    for (name, number) in &numbered(alloc, names)? {
+        in_order.push(*name)?;
+        numbers.push(*number)?;
     }
-    Ok(numbers)
+    Ok((in_order, numbers))
 }
 
 // The slot of a name among so many, if there are any.
@@ -82,15 +84,15 @@ fn slot_of(name: Name, slots: usize) -> usize {
 }
 
 // At the slot of each name where the last name with that slot stands.
-fn slots_of(alloc: Global, in_order: &[(Name, usize)]) -> Result<Vec<Slot>, AllocError> {
+fn slots_of(alloc: Global, in_order: &[Name], numbers: &[u32]) -> Result<Vec<Slot>, AllocError> {
     let count = in_order.len().saturating_mul(SLOTS_A_NAME);
     let nowhere = Slot { rank: 0, number: 0 };
     let mut slots = Vec::from_elem(alloc, nowhere, count)?;
-    for (rank, (name, number)) in in_order.iter().enumerate() {
+    for (rank, (name, number)) in in_order.iter().zip(numbers).enumerate() {
         if let Some(slot) = slots.get_mut(slot_of(*name, count)) {
             *slot = Slot {
                 rank: u32::try_from(rank).unwrap_or(0),
-                number: u32::try_from(*number).unwrap_or(0),
+                number: *number,
             };
         }
     }
@@ -102,12 +104,11 @@ impl SharedNames {
     pub fn new(alloc: Global, names: Vec<Name>) -> Result<SharedNames, AllocError>
         ensures { IfOk result (λ shared. shared ≡ names.items) }
     {
-        let in_order = in_order(alloc, &names)?;
-        let numbers = numbers_of(alloc, &in_order)?;
-        let slots = slots_of(alloc, &in_order)?;
+        let (in_order, numbers) = in_order(alloc, &names)?;
+        let slots = slots_of(alloc, &in_order, &numbers)?;
         let table = NameTable {
             names,
-            in_order,
+            in_order: Arc::new(alloc, in_order)?,
             numbers,
             slots,
         };
@@ -121,6 +122,11 @@ impl SharedNames {
         ensures { result ≡ length self.now }
     {
         self.table.names.len()
+    }
+
+    /// The names in name order.
+    pub fn in_order(&self) -> &Arc<Vec<Name>> {
+        &self.table.in_order
     }
 
     /// The numbers of the names in name order. They decide no answer.
@@ -155,11 +161,8 @@ impl SharedNames {
 impl SharedNames {
     // The number of a name by the order of the names.
     fn number_in_order(&self, name: Name) -> Option<usize> {
-        let in_order = &self.table.in_order;
-        match in_order.binary_search_by_key(&name, |&(name, _)| name) {
-            Ok(place) => Some(in_order[place].1),
-            Err(_) => None,
-        }
+        let rank = self.table.in_order.binary_search(&name).ok()?;
+        Some(*self.table.numbers.get(rank)? as usize)
     }
 
     // The number, if it is that of the name.

@@ -130,7 +130,7 @@ impl SharedRow {
         ensures err { OnErr result (self.new ≡ self.old) }
     {
         let row = Arc::make_mut(&mut self.row)?;
-        row.take(y, rights);
+        row.take(y, rights)?;
         Ok(())
     }
 }

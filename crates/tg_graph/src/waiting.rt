@@ -103,6 +103,7 @@ fn row_of(graph: &Graph, labels: &Labels) -> Result<Row, AllocError>
     let mut row = Row::new(graph.alloc);
     move_in_order(graph, &mut row, &mut left)?;
     move_all(graph, &mut row, &mut left)?;
+    row.shorten();
     // It is a row: this `len` says so.
     let _ = row.len();
     Ok(row)

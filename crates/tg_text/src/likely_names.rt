@@ -8,6 +8,7 @@ use crate::plain_lines::{behind_edge, cut_letters, two_names};
 use tg_graph::{GraphBuilder, Name};
 
 // What stands behind these bytes, where they stand at the front.
+#[inline(always)]
 fn behind<'a>(bytes: &'a [u8], front: &[u8]) -> Option<&'a [u8]>
     ensures { IfSome result (λ rest. bytes.now ≡ front.now ++ rest.now) }
 {
@@ -19,6 +20,7 @@ fn behind<'a>(bytes: &'a [u8], front: &[u8]) -> Option<&'a [u8]>
 }
 
 // What stands behind a name and a space, where they stand at the front.
+#[inline(always)]
 fn behind_name<'a>(bytes: &'a [u8], name: &Name) -> Option<&'a [u8]>
     ensures bytes { IfSome result (λ rest. bytes.now ≡ name.now ++ 32 ∷ rest.now) }
     ensures name { IfSome result (λ rest. IsName name.now) }
@@ -55,6 +57,7 @@ impl LastSource {
     // The likely names and letters that end a line, and what stands behind it: the source is that of
     // the line before, and the target the next in the order of the vertices, as in a text of all
     // pairs.
+    #[inline(always)]
     fn likely_names<'a>(
         &self,
         graph: &GraphBuilder,
@@ -77,6 +80,7 @@ impl LastSource {
 
     /// Source, target and letters of the edge line at the front of a text, and what stands behind
     /// it, where it is written with single spaces. Names are not read where they are the likely ones.
+    #[inline(always)]
     pub(crate) fn edge_line<'a>(
         &mut self,
         graph: &GraphBuilder,

@@ -14,6 +14,7 @@ use tg_graph::{Name, Rights, Rule};
 const MOST_LETTERS: usize = 7;
 
 /// What stands behind the word `edge` and a space, where they stand at the front.
+#[inline(always)]
 pub(crate) fn behind_edge(bytes: &[u8]) -> Option<&[u8]>
     ensures { IfSome result (λ rest. bytes.now ≡ codes "edge" ++ 32 ∷ rest.now) }
 {
@@ -24,6 +25,7 @@ pub(crate) fn behind_edge(bytes: &[u8]) -> Option<&[u8]>
 }
 
 /// The bytes up to a line feed and those behind it, where there are as few as a label may have.
+#[inline(always)]
 pub(crate) fn cut_letters(bytes: &[u8]) -> Option<(&[u8], &[u8])>
     ensures bytes { IfSome result (λ cut. bytes.now ≡ cut.0.now ++ 10 ∷ cut.1.now) }
     ensures few { IfSome result (λ cut. length cut.0.now ≤ 7) }
@@ -37,6 +39,7 @@ pub(crate) fn cut_letters(bytes: &[u8]) -> Option<(&[u8], &[u8])>
 }
 
 // The name at the front, and what stands behind it and a space.
+#[inline(always)]
 fn cut_name(bytes: &[u8]) -> Option<(Name, &[u8])>
     ensures bytes { IfSome result (λ cut. bytes.now ≡ cut.0 ++ 32 ∷ cut.1.now) }
     ensures name { IfSome result (λ cut. IsName cut.0) }
@@ -51,6 +54,7 @@ fn cut_name(bytes: &[u8]) -> Option<(Name, &[u8])>
 }
 
 /// Two names and letters that end a line, and what stands behind the line.
+#[inline(always)]
 pub(crate) fn two_names(bytes: &[u8]) -> Option<(Name, Name, &[u8], &[u8])>
     ensures line { IfSome result
         (λ found. bytes.now ≡ line_of (found.0 ∷ found.1 ∷ found.2.now ∷ []) ++ found.3.now) }
@@ -68,6 +72,7 @@ pub(crate) fn two_names(bytes: &[u8]) -> Option<(Name, Name, &[u8], &[u8])>
 }
 
 // Three names and letters that end a line, and what stands behind the line.
+#[inline(always)]
 fn three_names(bytes: &[u8]) -> Option<(Name, Name, Name, &[u8], &[u8])>
     ensures line { IfSome result
         (λ found. bytes.now ≡ line_of (found.0 ∷ found.1 ∷ found.2 ∷ found.3.now ∷ []) ++ found.4.now) }
@@ -84,6 +89,7 @@ fn three_names(bytes: &[u8]) -> Option<(Name, Name, Name, &[u8], &[u8])>
 }
 
 // The take that stands behind its keyword.
+#[inline(always)]
 fn cut_take(bytes: &[u8]) -> Option<(Rule, &[u8], &[u8])>
     ensures line { IfSome result
         (λ found. codes "take" ++ 32 ∷ bytes.now ≡ line_of (words_with found.0 found.1.now) ++ found.2.now) }
@@ -106,6 +112,7 @@ fn cut_take(bytes: &[u8]) -> Option<(Rule, &[u8], &[u8])>
 }
 
 // The grant that stands behind its keyword.
+#[inline(always)]
 fn cut_grant(bytes: &[u8]) -> Option<(Rule, &[u8], &[u8])>
     ensures line { IfSome result
         (λ found. codes "grant" ++ 32 ∷ bytes.now ≡ line_of (words_with found.0 found.1.now) ++ found.2.now) }
@@ -128,6 +135,7 @@ fn cut_grant(bytes: &[u8]) -> Option<(Rule, &[u8], &[u8])>
 }
 
 // The create that stands behind its keyword.
+#[inline(always)]
 fn cut_create(bytes: &[u8]) -> Option<(Rule, &[u8], &[u8])>
     ensures line { IfSome result
         (λ found. codes "create" ++ 32 ∷ bytes.now ≡ line_of (words_with found.0 found.1.now) ++ found.2.now) }
@@ -149,6 +157,7 @@ fn cut_create(bytes: &[u8]) -> Option<(Rule, &[u8], &[u8])>
 }
 
 // The remove that stands behind its keyword.
+#[inline(always)]
 fn cut_remove(bytes: &[u8]) -> Option<(Rule, &[u8], &[u8])>
     ensures line { IfSome result
         (λ found. codes "remove" ++ 32 ∷ bytes.now ≡ line_of (words_with found.0 found.1.now) ++ found.2.now) }
@@ -170,6 +179,7 @@ fn cut_remove(bytes: &[u8]) -> Option<(Rule, &[u8], &[u8])>
 }
 
 /// The rule that the first line of a text writes, its letters, and what stands behind the line.
+#[inline(always)]
 pub(crate) fn cut_rule(text: &[u8]) -> Option<(Rule, &[u8], &[u8])>
     ensures line { IfSome result
         (λ found. text.now ≡ line_of (words_with found.0 found.1.now) ++ found.2.now) }

@@ -1,18 +1,20 @@
-use Rattle.std.proofs.Common.{◌<◌, length, take, get_or, slice_set, sym, ap, ◌∙◌, add-one, arith}
-use Rattle.tg_graph.specs.Names.{first_bad, padded_to_16}
-use Rattle.tg_graph.proofs.NameFronts.{ends_there, one_more_at_front, one_more_padded}
+use Rattle.std.proofs.Common.{◌≤◌, ℕ, List, length, take, sym, ap, subst, ◌∙◌}
+use Rattle.tg_graph.specs.Names.{IsName, first_bad, padded_to_16}
+use Rattle.tg_graph.proofs.NameFronts.{same_cut, longest_in_front}
 use Rattle.tg_graph.proofs.names.front.Goals as goal
 
-pub returns-then-not-fits_at-clause-longest : goal.returns-then-not-fits_at-clause-longest
-returns-then-not-fits_at-clause-longest c = ends_there c.args.bytes.now c.loop-i.i (sym c.fits_at.ensures ∙ c.if-not-fits_at.true)
+pub returns-in-Some-clause-padded : goal.returns-in-Some-clause-padded
+returns-in-Some-clause-padded c =
+    let len = c.front_of_16.result.1 in
+    c.front_of_16.ensures.padded ∙ ap (λ bs. padded_to_16 (take len bs)) c.in-Some.ensures.cases.same ∙ ap padded_to_16 (same_cut len c.args.bytes.now c.front_of_16.ensures.few)
 
-pub loop-i-preserved : goal.loop-i-preserved
-loop-i-preserved c =
-    let bytes = c.args.bytes.now in
-    let i = c.loop-i.i in
-    let within : i < length bytes = omega (arith, c.loop-i-test.true, c.min-most.ensures) in
-    let few : i < 16 = omega (arith, c.loop-i-test.true, c.min-most.ensures) in
-    record {
-      padded = ap (λ p. slice_set p i (get_or bytes i 0)) c.loop-i.invariant.padded ∙ one_more_padded bytes i within few ∙ ap (λ m. padded_to_16 (take m bytes)) (sym (add-one i));
-      fit = ap (λ m. first_bad 0 (take m bytes)) (add-one i) ∙ one_more_at_front bytes i within c.loop-i.invariant.fit (sym c.fits_at.ensures ∙ c.if-not-fits_at.false);
-    }
+pub returns-in-Some-clause-fit : goal.returns-in-Some-clause-fit
+returns-in-Some-clause-fit c =
+    let len = c.front_of_16.result.1 in
+    ap (first_bad 0) (sym (same_cut len c.args.bytes.now c.front_of_16.ensures.few)) ∙ ap (λ bs. first_bad 0 (take len bs)) (sym c.in-Some.ensures.cases.same) ∙ c.front_of_16.ensures.fit
+
+pub returns-in-Some-clause-longest : goal.returns-in-Some-clause-longest
+returns-in-Some-clause-longest c =
+    let len = c.front_of_16.result.1 in
+    longest_in_front c.args.bytes.now len
+    (subst (λ (bs : List ℕ). (k : ℕ) → IsName (take k bs) → length (take k bs) ≤ len) c.in-Some.ensures.cases.same c.front_of_16.ensures.longest)

@@ -1,15 +1,21 @@
-use Rattle.std.proofs.Common.{is_some, sym, ap, ◌∙◌, bytes_eq, true≢false}
-use Rattle.std.specs.Map.{set_value}
-use Rattle.std.proofs.lemmas.Map.Made.{is_some-lookup}
-use Rattle.std.proofs.lemmas.Map.Steps.{set_value_same}
-use Rattle.std.proofs.lemmas.Result.{on_err_weaker}
+use Rattle.std.proofs.Common.{sym}
+use Rattle.tg_graph.proofs.Graphs.{changes-found, same-found}
+use Rattle.tg_graph.proofs.Rows.{on_err_from}
+use Rattle.tg_graph.proofs.TakenOver.{row-at, set_value-at}
 use Rattle.tg_graph.proofs.protection.widen.Goals as goal
 
-pub returns-in-Some-clause-err : goal.returns-in-Some-clause-err
-returns-in-Some-clause-err c =
+pub returns-in_err-add-clause-err : goal.returns-in_err-add-clause-err
+returns-in_err-add-clause-err c =
     let es = c.args.rows.now.entries in
-    let test = bytes_eq c.args.x in
-    on_err_weaker c.add.result (λ e. (c.get_mut.follows.holds c.add.new.self).0 ∙ ap (set_value test es) e ∙ set_value_same test es c.in-Some.row.now (sym c.in-Some.ensures.value)) c.add.ensures.err
+    let row = c.in-Some.row.now in
+    let found = row-at es c.args.source c.args.x row c.get_index_mut.ensures.unique c.requires.source (sym c.in-Some.ensures.value) in
+    let put = set_value-at es c.args.source c.args.x row c.add.new.self c.get_index_mut.ensures.unique c.requires.source found in
+    on_err_from c.from_residual.result (same-found es _ c.args.x row c.add.new.self (sym found) put c.in_err-add.ensures.err)
 
-pub returns-in-None-clause-widened : goal.returns-in-None-clause-widened
-returns-in-None-clause-widened c = absurd (true≢false (sym c.requires.known ∙ sym (is_some-lookup (bytes_eq c.args.x) c.args.rows.now.entries) ∙ sym (ap is_some c.in-None.ensures.value)))
+pub returns-clause-widened : goal.returns-clause-widened
+returns-clause-widened c =
+    let es = c.args.rows.now.entries in
+    let row = c.in-Some.row.now in
+    let found = row-at es c.args.source c.args.x row c.get_index_mut.ensures.unique c.requires.source (sym c.in-Some.ensures.value) in
+    let put = set_value-at es c.args.source c.args.x row c.add.new.self c.get_index_mut.ensures.unique c.requires.source found in
+    changes-found es _ c.args.x row c.add.new.self (sym found) put c.in_ok-add.ensures.adds c.in_ok-add.ensures.row

@@ -14,11 +14,11 @@ write-requires-clause-label c =
     let some : 0 < c.difference-left.result.0 = grind (arith, nat_tests) in
     record { some = some; named = named-difference c.label_at.result c.args.rights c.difference-left.result (c.difference-left.ensures tt) c.label_at.ensures.label.named }
 
-pub returns-then-is_empty-clause-taken : goal.returns-then-is_empty-clause-taken
-returns-then-is_empty-clause-taken c =
+pub returns-in_ok-cut-clause-taken : goal.returns-in_ok-cut-clause-taken
+returns-in_ok-cut-clause-taken c =
     taken-whole c.args.self.now c.cut.new.self c.args.y c.args.rights c.difference-left.result
     (c.difference-left.ensures tt ∙ ap (λ (r : Rights). bit_and r.0 (bit_not w8 c.args.rights.0)) (sym (ap (λ o. unwrap_or o nothing) c.label_at.ensures.found))) c.requires
-    ((Decides-eqb c.difference-left.result.0 0).0 (sym (c.is_empty.ensures tt) ∙ c.if-is_empty.true)) c.cut.ensures.puts
+    ((Decides-eqb c.difference-left.result.0 0).0 (sym (c.is_empty.ensures tt) ∙ c.if-is_empty.true)) c.in_ok-cut.ensures.puts
 
 pub returns-else-is_empty-clause-taken : goal.returns-else-is_empty-clause-taken
 returns-else-is_empty-clause-taken c =

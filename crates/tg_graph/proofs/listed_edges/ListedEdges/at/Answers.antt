@@ -4,7 +4,7 @@ use Rattle.tg_graph.proofs.EdgeLists.{named-is}
 use Rattle.std.specs.Option.{option_map}
 use Rattle.std.proofs.lemmas.Option.{slice_get-map}
 use Rattle.tg_graph.proofs.EdgeLists.{read_by_get}
-use Rattle.tg_graph.proofs.edge_list.EdgeList.at.Goals as goal
+use Rattle.tg_graph.proofs.listed_edges.ListedEdges.at.Goals as goal
 
 pub returns : goal.returns
 returns c =

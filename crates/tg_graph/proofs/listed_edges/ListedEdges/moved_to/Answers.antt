@@ -5,8 +5,8 @@ use Rattle.std.proofs.lemmas.Option.{none-some, slice_get-get_or}
 use Rattle.tg_graph.specs.Sets.{nothing}
 use Rattle.tg_graph.specs.EdgeLists.{names_of, named}
 use Rattle.tg_graph.proofs.EdgeLists.{take_one}
-use Rattle.tg_graph.proofs.edge_list.EdgeList.moved_to.Goals as goal
-use Rattle.tg_graph.proofs.edge_list.EdgeList.moved_to.Goals.{in-Some+in_ok-put, in_default}
+use Rattle.tg_graph.proofs.listed_edges.ListedEdges.moved_to.Goals as goal
+use Rattle.tg_graph.proofs.listed_edges.ListedEdges.moved_to.Goals.{in-Some+in_ok-put, in_default}
 
 pub loop-place-preserved : goal.loop-place-preserved
 loop-place-preserved c =

@@ -5,7 +5,7 @@ use Rattle.tg_graph.proofs.EdgeLists.{each-insert, edges-extends, within-extends
 use Rattle.indexmap.proofs.SetLemmas.{map-insert}
 use Rattle.std.proofs.lemmas.Option.{slice_get_within}
 use Rattle.tg_graph.proofs.Rows.{on_err_from}
-use Rattle.tg_graph.proofs.edge_list.EdgeList.put.Goals as goal
+use Rattle.tg_graph.proofs.listed_edges.ListedEdges.put.Goals as goal
 
 pub returns-in_err-number-clause-err : goal.returns-in_err-number-clause-err
 returns-in_err-number-clause-err c = on_err_from c.from_residual.result (edges-extends _ _ c.number_for.ensures.kept c.self.inside.edges.items c.self.invariant ∙ c.self.view_is)

@@ -2,7 +2,7 @@ use Rattle.std.proofs.Common.{◌∷◌, ◌++◌, [], ap, ◌∙◌}
 use Rattle.std.proofs.lemmas.List.{map-append}
 use Rattle.tg_graph.specs.EdgeLists.{named, edges_of, names_of}
 use Rattle.tg_graph.proofs.EdgeLists.{named-is}
-use Rattle.tg_graph.proofs.edge_list.EdgeList.push.Goals as goal
+use Rattle.tg_graph.proofs.listed_edges.ListedEdges.push.Goals as goal
 
 pub returns-clause-pushed : goal.returns-clause-pushed
 returns-clause-pushed c =

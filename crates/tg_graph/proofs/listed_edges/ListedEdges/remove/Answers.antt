@@ -2,7 +2,7 @@ use Rattle.std.proofs.Common.{ap, ◌∙◌}
 use Rattle.std.specs.List.{remove}
 use Rattle.tg_graph.specs.EdgeLists.{named, edges_of, names_of}
 use Rattle.indexmap.proofs.SetLemmas.{map-remove}
-use Rattle.tg_graph.proofs.edge_list.EdgeList.remove.Goals as goal
+use Rattle.tg_graph.proofs.listed_edges.ListedEdges.remove.Goals as goal
 
 pub returns : goal.returns
 returns c =

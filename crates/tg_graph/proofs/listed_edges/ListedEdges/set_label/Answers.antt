@@ -3,7 +3,7 @@ use Rattle.tg_graph.specs.EdgeLists.{number_of, named, names_of}
 use Rattle.std.proofs.lemmas.List.{map-set, length-map, get_or-map}
 use Rattle.tg_graph.specs.declared.right_sets.Rights.{Rights}
 use Rattle.tg_graph.specs.Rows.{Edges}
-use Rattle.tg_graph.proofs.edge_list.EdgeList.set_label.Goals as goal
+use Rattle.tg_graph.proofs.listed_edges.ListedEdges.set_label.Goals as goal
 
 pub returns : goal.returns
 returns c d =

@@ -1,0 +1,268 @@
+//! The edges out of one vertex: four bytes for an edge whose target's name is shared.
+ghost use Rattle.std.specs.Prelude.{◌≡◌, ◌<◌, ◌≤◌, ◌+◌, [], ◌∷◌, ◌++◌, if◌then◌else◌, Some, IfOk, OnOk, OnErr, length, slice_get, slice_index_or, slice_set};
+ghost use Rattle.std.specs.List.{insert, remove};
+ghost use Rattle.tg_graph.specs.declared.right_sets.Rights.{Rights};
+ghost use Rattle.tg_graph.specs.Sets.{IsNamed};
+
+use crate::names::Name;
+use crate::right_sets::Rights;
+use crate::shared_names::{Hint, SharedNames};
+use crate::targets::{Targets, shared_with};
+use bitflags::Flags;
+use std::alloc::{AllocError, Global};
+use std::marker::Model;
+
+// The numbers of targets are below this one, so that a label has eight bits beside them.
+const MOST_NUMBERS: usize = 16_777_216;
+
+// How many names of their own a list's edges may leave behind before they are gathered anew.
+const SPARE_NAMES: usize = 8;
+
+/// The number of a target, with eight bits for the label behind it.
+#[derive(Clone, Copy)]
+struct Edge {
+    bits: u32,
+}
+
+impl Edge {
+    ghost use Rattle.tg_graph.specs.EdgeLists.{number_of, label_on};
+
+    fn new(number: usize, label: Rights) -> Edge
+        requires { number < MOST_NUMBERS }
+        ensures number { number_of result ≡ number }
+        ensures label { label_on result ≡ label }
+    {
+        Edge {
+            bits: number as u32 * 256 + u32::from(label.bits()),
+        }
+    }
+
+    fn with_label(self, label: Rights) -> Edge
+        ensures number { number_of result ≡ number_of self }
+        ensures label { label_on result ≡ label }
+    {
+        Edge {
+            bits: self.bits / 256 * 256 + u32::from(label.bits()),
+        }
+    }
+
+    fn number(self) -> usize
+        ensures { result ≡ number_of self }
+    {
+        (self.bits / 256) as usize
+    }
+
+    fn label(self) -> Rights
+        ensures { result ≡ label_on self }
+    {
+        Rights::from_bits_retain((self.bits % 256) as u8)
+    }
+}
+
+/// A list of edges, each with its target and label.
+#[derive(Drop)]
+pub struct ListedEdges {
+    targets: Targets,
+    edges: Vec<Edge>,
+}
+
+impl Model for ListedEdges {
+    ghost use Rattle.std.specs.Prelude.{List, ℕ};
+    ghost use Rattle.tg_graph.specs.declared.right_sets.Rights.{Rights};
+    ghost use Rattle.tg_graph.specs.EdgeLists.{names_of, edges_of, AreWithin};
+
+    ghost Value = { List (List ℕ × Rights) };
+
+    ghost view = { λ l. edges_of (names_of l.targets) l.edges.items };
+
+    ghost invariant = { λ l. AreWithin (names_of l.targets) l.edges.items };
+}
+
+impl Clone for ListedEdges {
+    ghost use Rattle.std.specs.Prelude.{◌≡◌};
+
+    ghost is_clone = { λ list copy. copy ≡ list };
+
+    fn clone(&self) -> Result<ListedEdges, AllocError> {
+        Ok(ListedEdges {
+            targets: self.targets.clone()?,
+            edges: Vec::from_slice(*self.edges.allocator(), self.edges.as_slice())?,
+        })
+    }
+}
+
+impl ListedEdges {
+    ghost use Rattle.std.specs.Prelude.{List, ℕ};
+
+    /// No edges, among whose targets these names are.
+    pub fn new(alloc: Global, names: Option<SharedNames>) -> ListedEdges
+        ensures { result ≡ [] }
+    {
+        ListedEdges {
+            targets: Targets::new(alloc, names),
+            edges: Vec::new(alloc),
+        }
+    }
+
+    /// No edges, among whose targets these names are, with room for so many.
+    pub fn with_room(
+        alloc: Global,
+        names: Option<&SharedNames>,
+        count: usize,
+    ) -> Result<ListedEdges, AllocError>
+        ensures { IfOk result (λ list. list ≡ []) }
+    {
+        let mut list = ListedEdges::new(alloc, shared_with(names)?);
+        list.edges.reserve(count)?;
+        Ok(list)
+    }
+
+    /// How many edges there are.
+    pub fn len(&self) -> usize
+        ensures { result ≡ length self.now }
+    {
+        self.edges.len()
+    }
+
+    /// The edge at a place.
+    pub fn at(&self, place: usize) -> Option<(Name, Rights)>
+        ensures { result ≡ slice_get self.now place }
+    {
+        let edge = self.edges.get(place).copied()?;
+        let name = self.targets.at(edge.number())?;
+        Some((name, edge.label()))
+    }
+
+    /// The names that are shared.
+    pub fn shared(&self) -> Option<&SharedNames> {
+        self.targets.shared()
+    }
+
+    /// The memory that the list is in.
+    pub fn allocator(&self) -> Global {
+        *self.edges.allocator()
+    }
+
+    /// Where the edge to a vertex is, in name order, if there is one to each of the shared names. It
+    /// decides no answer.
+    pub fn place_among_all(&self, target: Name) -> Option<usize> {
+        let names = self.targets.shared()?;
+        if self.edges.len() < names.len() {
+            return None;
+        }
+        names.likely_rank(target)
+    }
+
+    /// The target of the edge at a place.
+    pub fn target(&self, place: usize) -> Name
+        requires { place < length self.now }
+        ensures { (d : List ℕ × Rights) → result ≡ (slice_index_or self.now place d).0 }
+    {
+        let Some(name) = self.targets.at(self.edges[place].number()) else {
+            unreachable!();
+        };
+        name
+    }
+
+    /// The label of the edge at a place.
+    pub fn label(&self, place: usize) -> Rights
+        requires { place < length self.now }
+        ensures { (d : List ℕ × Rights) → result ≡ (slice_index_or self.now place d).1 }
+    {
+        self.edges[place].label()
+    }
+
+    /// Writes the label of the edge at a place.
+    pub fn set_label(&mut self, place: usize, label: Rights)
+        requires { place < length self.old }
+        ensures { (d : List ℕ × Rights) → self.new ≡ slice_set self.old place ((slice_index_or self.old place d).0, label) }
+    {
+        self.edges[place] = self.edges[place].with_label(label);
+    }
+
+    /// Puts an edge in at a place, and lets go of no name.
+    pub fn put(&mut self, place: usize, edge: (Name, Rights), hint: Hint) -> Result<(), AllocError>
+        requires { place ≤ length self.old }
+        ensures put { OnOk result (self.new ≡ insert self.old place edge) }
+        ensures err { OnErr result (self.new ≡ self.old) }
+    {
+        let number = self.targets.number_for(edge.0, hint)?;
+        if number >= MOST_NUMBERS {
+            return Err(AllocError);
+        }
+        self.edges.insert(place, Edge::new(number, edge.1))?;
+        Ok(())
+    }
+
+    /// The same edges, whose targets have numbers among these names where they had them among
+    /// others that are the same.
+    pub fn moved_to(
+        &self,
+        alloc: Global,
+        names: Option<&SharedNames>,
+    ) -> Result<ListedEdges, AllocError>
+        ensures { IfOk result (λ list. list ≡ self.now) }
+    {
+        let mut list = ListedEdges::with_room(alloc, names, self.edges.len())?;
+        for place in 0..self.edges.len() {
+            let number = self.edges[place].number();
+            if let Some(edge) = self.at(place) {
+                let hint = Hint {
+                    names,
+                    number: Some(number),
+                };
+                list.put(place, edge, hint)?;
+            }
+        }
+        Ok(list)
+    }
+
+    // Gathers the edges anew where most of their own names are of edges that were taken away.
+    fn tidy(&mut self) -> Result<(), AllocError>
+        ensures { self.new ≡ self.old }
+    {
+        let used = self.edges.len().saturating_add(SPARE_NAMES);
+        if self.targets.own_len() / 2 > used {
+            let alloc = *self.edges.allocator();
+            *self = self.moved_to(alloc, self.targets.shared())?;
+        }
+        Ok(())
+    }
+
+    /// Puts an edge in at a place.
+    pub fn insert(
+        &mut self,
+        place: usize,
+        edge: (Name, Rights),
+        hint: Hint,
+    ) -> Result<(), AllocError>
+        requires { place ≤ length self.old }
+        ensures put { OnOk result (self.new ≡ insert self.old place edge) }
+        ensures err { OnErr result (self.new ≡ self.old) }
+    {
+        self.tidy()?;
+        self.put(place, edge, hint)
+    }
+
+    /// Puts an edge behind the others where the number is that of its target, and says whether it
+    /// was put there.
+    pub fn push(&mut self, target: Name, label: Rights, number: usize) -> Result<bool, AllocError>
+        ensures pushed { IfOk result
+            (λ pushed. self.new ≡ (if pushed then self.old ++ (target, label) ∷ [] else self.old)) }
+        ensures err { OnErr result (self.new ≡ self.old) }
+    {
+        if number >= MOST_NUMBERS || !self.targets.is_at(number, target) {
+            return Ok(false);
+        }
+        self.edges.push(Edge::new(number, label))?;
+        Ok(true)
+    }
+
+    /// Takes the edge at a place away.
+    pub fn remove(&mut self, place: usize)
+        requires { place < length self.old }
+        ensures { self.new ≡ remove self.old place }
+    {
+        self.edges.remove(place);
+    }
+}
