@@ -1,12 +1,20 @@
 // Each test passes whichever one request for memory is refused, which `make refusals` tries. Where a
 // call was refused memory, its second try has it.
-use crate::builder_tests::{COUNT, add_to_graph, one_row, vertices};
+use crate::builder::GraphBuilder;
+use crate::builder_tests::{COUNT, first_edges, one_row};
 use crate::names::Name;
-use crate::protection::VertexFault;
+use crate::protection::{Graph, VertexFault};
 use crate::test_values::same;
-use std::alloc::AllocError;
+use std::alloc::{AllocError, Global};
 use std::process::Abort;
 use std::test::Fail;
+
+// What `one_row` is the builder of.
+fn is_one_row(rt: &impl Abort, alloc: Global, g: &Graph) -> Result<(), Fail> {
+    let wanted = first_edges(rt, alloc, COUNT - 1)?;
+    assert!(rt; same(g, &wanted));
+    Ok(())
+}
 
 // The rows are made of what waits by `finish` alone, so that may be refused.
 #[test]
@@ -14,12 +22,14 @@ fn a_builder_that_is_refused(rt: HostRuntime) -> Result<(), Fail> {
     let Ok(g) = one_row(&rt, rt.alloc())?.finish() else {
         return Ok(());
     };
-    let mut wanted = vertices(rt.alloc())?;
-    for number in 0..COUNT - 1 {
-        add_to_graph(&rt, &mut wanted, number);
+    is_one_row(&rt, rt.alloc(), &g)
+}
+
+fn adds_vertex(rt: &impl Abort, builder: &mut GraphBuilder, n: Name) {
+    if let Err(fault) = builder.add_vertex(n) {
+        assert!(rt; fault == VertexFault::Memory && !builder.knows(n));
+        assert!(rt; builder.add_vertex(n) == Ok(()));
     }
-    assert!(rt; same(&g, &wanted));
-    Ok(())
 }
 
 // A vertex that is refused while edges wait, and the second try.
@@ -27,10 +37,7 @@ fn a_builder_that_is_refused(rt: HostRuntime) -> Result<(), Fail> {
 fn a_refused_vertex_while_edges_wait(rt: HostRuntime) -> Result<(), Fail> {
     let mut builder = one_row(&rt, rt.alloc())?;
     let n = Name::helper(COUNT);
-    if let Err(fault) = builder.add_vertex(n) {
-        assert!(rt; fault == VertexFault::Memory && !builder.knows(n));
-        assert!(rt; builder.add_vertex(n) == Ok(()));
-    }
+    adds_vertex(&rt, &mut builder, n);
     let last = match builder.finish() {
         Ok(g) => g.name_at(COUNT as usize),
         Err(AllocError) => Some(n),

@@ -5,11 +5,11 @@ ghost use Rattle.tg_graph.specs.Rules.{rights_of};
 ghost use Rattle.tg_graph.specs.Drafts.{Fits};
 
 use crate::draft::{Draft, Ready};
-use crate::memory_tests::{copied, one, rule_at};
+use crate::memory_tests::{copied, lone, rule_at};
 use crate::protection::Graph;
 use crate::rules::{Rule, RuleFault};
 use crate::test_values::{row_lengths, same};
-use std::alloc::AllocError;
+use std::alloc::{AllocError, Global};
 use std::process::Abort;
 use std::test::Fail;
 
@@ -22,6 +22,24 @@ fn whole(draft: &Draft, base: &Graph) -> Result<Graph, AllocError>
     }
 }
 
+// The second try of a rule whose first changed nothing.
+fn drafts_again(
+    rt: &impl Abort,
+    draft: &mut Draft,
+    base: &Graph,
+    rule: &Rule,
+    before: &Graph,
+) -> Result<(), AllocError>
+    requires named { IsNamed (rights_of rule.now) }
+    requires fits { Fits base.now draft.old }
+    ensures { Fits base.now draft.new }
+{
+    let after = whole(draft, base)?;
+    assert!(rt; same(&after, before));
+    assert!(rt; draft.apply(base, rule) == Ok(()));
+    Ok(())
+}
+
 fn drafts(rt: &impl Abort, draft: &mut Draft, base: &Graph, rule: Rule) -> Result<(), AllocError>
     requires named { IsNamed (rights_of rule) }
     requires fits { Fits base.now draft.old }
@@ -29,9 +47,8 @@ fn drafts(rt: &impl Abort, draft: &mut Draft, base: &Graph, rule: Rule) -> Resul
 {
     let before = whole(draft, base)?;
     if let Err(fault) = draft.apply(base, &rule) {
-        let after = whole(draft, base)?;
-        assert!(rt; fault == RuleFault::Memory && same(&after, &before));
-        assert!(rt; draft.apply(base, &rule) == Ok(()));
+        assert!(rt; fault == RuleFault::Memory);
+        drafts_again(rt, draft, base, &rule, &before)?;
     }
     Ok(())
 }
@@ -56,68 +73,93 @@ fn ready(rt: &impl Abort, base: Graph, draft: Draft, before: &Graph) -> Graph
     }
 }
 
+fn becomes(rt: &impl Abort, base: Graph, draft: Draft, wanted: &Graph) -> Result<(), AllocError>
+    requires { Fits base draft }
+{
+    let before = copied(rt, &base)?;
+    let merged = ready(rt, base, draft, &before);
+    assert!(rt; same(&merged, wanted));
+    row_lengths(rt, &merged, &[2, 1]);
+    Ok(())
+}
+
 // It is that which `whole` gives.
-fn merged(rt: &impl Abort, base: Graph, draft: Draft) -> Result<Graph, AllocError>
+fn becomes_whole(rt: &impl Abort, base: Graph, draft: Draft) -> Result<(), AllocError>
     requires { Fits base draft }
 {
     let wanted = whole(&draft, &base)?;
-    let before = copied(rt, &base)?;
-    let merged = ready(rt, base, draft, &before);
-    assert!(rt; same(&merged, &wanted));
-    Ok(merged)
+    becomes(rt, base, draft, &wanted)
 }
 
 // The same, in place.
-fn merge_again(rt: &impl Abort, base: &mut Graph, draft: Draft, before: &Graph)
+fn merge_again(rt: &impl Abort, base: &mut Graph, draft: Draft) -> Result<(), AllocError>
     requires { Fits base.old draft }
 {
+    let before = copied(rt, base)?;
     if let Err(draft) = base.merge(draft) {
-        assert!(rt; same(base, before));
+        assert!(rt; same(base, &before));
         merge(rt, base, draft);
     }
+    Ok(())
 }
 
 fn merges(rt: &impl Abort, base: &mut Graph, draft: Draft) -> Result<(), AllocError>
     requires { Fits base.old draft }
 {
     let wanted = whole(&draft, base)?;
-    let before = copied(rt, base)?;
-    merge_again(rt, base, draft, &before);
+    merge_again(rt, base, draft)?;
     assert!(rt; same(base, &wanted));
     Ok(())
 }
 
+fn drafts_two(rt: &impl Abort, draft: &mut Draft, base: &Graph) -> Result<(), AllocError>
+    requires { Fits base.now draft.old }
+    ensures { Fits base.now draft.new }
+{
+    drafts(rt, draft, base, rule_at(0))?;
+    drafts(rt, draft, base, rule_at(1))
+}
+
 #[test]
 fn refused_on_the_way_to_ready(rt: HostRuntime) -> Result<(), Fail> {
-    let mut base = Graph::new(rt.alloc());
-    one(&rt, &mut base)?;
+    let base = lone(&rt, rt.alloc())?;
     let mut draft = Draft::new(rt.alloc());
-    drafts(&rt, &mut draft, &base, rule_at(0))?;
-    drafts(&rt, &mut draft, &base, rule_at(1))?;
-    let merged = merged(&rt, base, draft)?;
-    row_lengths(&rt, &merged, &[2, 1]);
+    drafts_two(&rt, &mut draft, &base)?;
+    becomes_whole(&rt, base, draft)?;
+    Ok(())
+}
+
+fn drafts_in_place(rt: &impl Abort, alloc: Global, base: &mut Graph) -> Result<(), AllocError> {
+    let mut draft = Draft::new(alloc);
+    drafts(rt, &mut draft, base, rule_at(0))?;
+    merges(rt, base, draft)?;
+    row_lengths(rt, base, &[2, 0]);
     Ok(())
 }
 
 #[test]
 fn refused_in_place(rt: HostRuntime) -> Result<(), Fail> {
-    let mut base = Graph::new(rt.alloc());
-    one(&rt, &mut base)?;
-    let mut draft = Draft::new(rt.alloc());
-    drafts(&rt, &mut draft, &base, rule_at(0))?;
-    merges(&rt, &mut base, draft)?;
-    row_lengths(&rt, &base, &[2, 0]);
+    let mut base = lone(&rt, rt.alloc())?;
+    drafts_in_place(&rt, rt.alloc(), &mut base)?;
+    Ok(())
+}
+
+fn copied_unshared(g: &Graph) -> Result<Graph, AllocError> {
+    match g.copy_unshared() {
+        Ok(copy) => Ok(copy),
+        Err(AllocError) => g.copy_unshared(),
+    }
+}
+
+fn has_same_copy(rt: &impl Abort, g: &Graph) -> Result<(), AllocError> {
+    let copy = copied_unshared(g)?;
+    assert!(rt; same(g, &copy));
     Ok(())
 }
 
 #[test]
 fn refused_unshared_copy(rt: HostRuntime) -> Result<(), Fail> {
-    let mut g = Graph::new(rt.alloc());
-    one(&rt, &mut g)?;
-    let copy = match g.copy_unshared() {
-        Ok(copy) => copy,
-        Err(AllocError) => g.copy_unshared()?,
-    };
-    assert!(rt; same(&g, &copy));
+    let g = lone(&rt, rt.alloc())?;
+    has_same_copy(&rt, &g)?;
     Ok(())
 }

@@ -62,17 +62,33 @@ fn has_r(rt: &impl Abort, graph: &Graph, x: Name, y: Name) {
     assert!(rt; graph.label(x, y) == Some(Rights::of(Right::R)));
 }
 
+// By the draft, a comes to have r over c.
+fn drafts_take(rt: &impl Abort, draft: &mut Draft, base: &Graph)
+    requires { Fits base.now draft.old }
+    ensures { Fits base.now draft.new }
+{
+    let (a, c) = (name(rt, b"a"), name(rt, b"c"));
+    assert!(rt; !drafted(draft, base, a, Right::R, c));
+    drafts(rt, draft, base, take_r(rt));
+    assert!(rt; drafted(draft, base, a, Right::R, c));
+}
+
+// What was drafted is in the whole alone.
+fn is_over_the_graph(rt: &impl Abort, draft: &Draft, base: &Graph) -> Result<(), Fail>
+    requires { Fits base.now draft.now }
+{
+    let (a, c) = (name(rt, b"a"), name(rt, b"c"));
+    has_r(rt, &whole(rt, draft, base, 3)?, a, c);
+    assert!(rt; !base.holds(a, Right::R, c));
+    Ok(())
+}
+
 #[test]
 fn a_draft_over_a_graph(rt: HostRuntime) -> Result<(), Fail> {
     let base = three(&rt, rt.alloc())?;
     let mut draft = Draft::new(rt.alloc());
-    let (a, c) = (name(&rt, b"a"), name(&rt, b"c"));
-    assert!(rt; !drafted(&draft, &base, a, Right::R, c));
-    drafts(&rt, &mut draft, &base, take_r(&rt));
-    assert!(rt; drafted(&draft, &base, a, Right::R, c));
-    has_r(&rt, &whole(&rt, &draft, &base, 3)?, a, c);
-    assert!(rt; !base.holds(a, Right::R, c));
-    Ok(())
+    drafts_take(&rt, &mut draft, &base);
+    is_over_the_graph(&rt, &draft, &base)
 }
 
 // The graph with the one vertex a.
@@ -100,29 +116,54 @@ fn is_taken(rt: &impl Abort, draft: &mut Draft, base: &Graph)
     assert!(rt; draft.apply(base, &create_r(rt)) == Err(fault));
 }
 
+// n stands behind a, which has r over it.
+fn n_is_second(rt: &impl Abort, whole: &Graph) {
+    assert!(rt; whole.position(name(rt, b"n")) == Some(1));
+    has_r(rt, whole, name(rt, b"a"), name(rt, b"n"));
+}
+
+fn drafts_create(rt: &impl Abort, draft: &mut Draft, base: &Graph)
+    requires { Fits base.now draft.old }
+    ensures { Fits base.now draft.new }
+{
+    drafts(rt, draft, base, create_r(rt));
+    is_created(rt, draft, base);
+    is_taken(rt, draft, base);
+}
+
+fn has_n_in_whole(rt: &impl Abort, draft: &Draft, base: &Graph) -> Result<(), Fail>
+    requires { Fits base.now draft.now }
+{
+    n_is_second(rt, &whole(rt, draft, base, 2)?);
+    Ok(())
+}
+
 #[test]
 fn a_draft_creates(rt: HostRuntime) -> Result<(), Fail> {
     let base = lone(&rt, rt.alloc())?;
     let mut draft = Draft::new(rt.alloc());
-    drafts(&rt, &mut draft, &base, create_r(&rt));
-    is_created(&rt, &draft, &base);
-    is_taken(&rt, &mut draft, &base);
-    let whole = whole(&rt, &draft, &base, 2)?;
-    assert!(rt; whole.position(name(&rt, b"n")) == Some(1));
-    has_r(&rt, &whole, name(&rt, b"a"), name(&rt, b"n"));
+    drafts_create(&rt, &mut draft, &base);
+    has_n_in_whole(&rt, &draft, &base)
+}
+
+fn merges_take(rt: &impl Abort, alloc: Global, base: &mut Graph) {
+    let mut draft = Draft::new(alloc);
+    drafts(rt, &mut draft, base, take_r(rt));
+    assert!(rt; base.merge(draft).is_ok());
+}
+
+fn merges_beside_copy(rt: &impl Abort, alloc: Global, base: &mut Graph) -> Result<(), Fail> {
+    let copy = base.copy()?;
+    merges_take(rt, alloc, base);
+    assert!(rt; reads(rt, base, b"a", b"c"));
+    assert!(rt; !reads(rt, &copy, b"a", b"c"));
     Ok(())
 }
 
 #[test]
 fn a_draft_merged(rt: HostRuntime) -> Result<(), Fail> {
     let mut base = three(&rt, rt.alloc())?;
-    let copy = base.copy()?;
-    let mut draft = Draft::new(rt.alloc());
-    drafts(&rt, &mut draft, &base, take_r(&rt));
-    assert!(rt; base.merge(draft).is_ok());
-    assert!(rt; reads(&rt, &base, b"a", b"c"));
-    assert!(rt; !reads(&rt, &copy, b"a", b"c"));
-    Ok(())
+    merges_beside_copy(&rt, rt.alloc(), &mut base)
 }
 
 // What base and draft stand for together.
@@ -135,15 +176,18 @@ fn merged(rt: &impl Abort, base: Graph, draft: Draft) -> Graph
     }
 }
 
+fn is_made_ready(rt: &impl Abort, merged: &Graph) {
+    row_lengths(rt, merged, &[2, 0, 0, 0]);
+    stands_at(rt, merged, b"n", 3);
+}
+
 #[test]
 fn a_draft_made_ready(rt: HostRuntime) -> Result<(), Fail> {
     let base = three(&rt, rt.alloc())?;
     let mut draft = Draft::new(rt.alloc());
     drafts(&rt, &mut draft, &base, remove_r(&rt));
     drafts(&rt, &mut draft, &base, create_r(&rt));
-    let merged = merged(&rt, base, draft);
-    row_lengths(&rt, &merged, &[2, 0, 0, 0]);
-    stands_at(&rt, &merged, b"n", 3);
+    is_made_ready(&rt, &merged(&rt, base, draft));
     Ok(())
 }
 
@@ -153,32 +197,49 @@ fn applies(rt: &impl Abort, g: &mut Graph, rule: Rule)
     assert!(rt; g.apply(&rule) == Ok(()));
 }
 
-// Whether a has r over c, and whether b has.
-fn who_reads(rt: &impl Abort, g: &Graph) -> (bool, bool) {
-    (reads(rt, g, b"a", b"c"), reads(rt, g, b"b", b"c"))
+// Whether a and b have r over c is as given.
+fn who_reads(rt: &impl Abort, g: &Graph, by_a: bool, by_b: bool) {
+    assert!(rt; reads(rt, g, b"a", b"c") == by_a);
+    assert!(rt; reads(rt, g, b"b", b"c") == by_b);
+}
+
+fn change_apart(rt: &impl Abort, base: &Graph, shared: &mut Graph, unshared: &mut Graph) {
+    applies(rt, shared, take_r(rt));
+    applies(rt, unshared, remove_r(rt));
+    who_reads(rt, base, false, true);
+    who_reads(rt, shared, true, true);
+    who_reads(rt, unshared, false, false);
+}
+
+fn copies_change_apart(rt: &impl Abort, base: &Graph) -> Result<(), Fail> {
+    let mut shared = base.copy()?;
+    let mut unshared = base.copy_unshared()?;
+    change_apart(rt, base, &mut shared, &mut unshared);
+    Ok(())
 }
 
 #[test]
 fn a_change_stays_in_its_copy(rt: HostRuntime) -> Result<(), Fail> {
     let base = three(&rt, rt.alloc())?;
-    let mut shared = base.copy()?;
-    let mut unshared = base.copy_unshared()?;
-    applies(&rt, &mut shared, take_r(&rt));
-    applies(&rt, &mut unshared, remove_r(&rt));
-    assert!(rt; who_reads(&rt, &base) == (false, true));
-    assert!(rt; who_reads(&rt, &shared) == (true, true));
-    assert!(rt; who_reads(&rt, &unshared) == (false, false));
+    copies_change_apart(&rt, &base)
+}
+
+fn changes_alone(rt: &impl Abort, base: &mut Graph, shared: &Graph, unshared: &Graph) {
+    applies(rt, base, remove_r(rt));
+    assert!(rt; !reads(rt, base, b"b", b"c"));
+    assert!(rt; reads(rt, shared, b"b", b"c"));
+    assert!(rt; reads(rt, unshared, b"b", b"c"));
+}
+
+fn changes_beside_copies(rt: &impl Abort, base: &mut Graph) -> Result<(), Fail> {
+    let shared = base.copy()?;
+    let unshared = base.copy_unshared()?;
+    changes_alone(rt, base, &shared, &unshared);
     Ok(())
 }
 
 #[test]
 fn a_change_leaves_the_copies(rt: HostRuntime) -> Result<(), Fail> {
     let mut base = three(&rt, rt.alloc())?;
-    let shared = base.copy()?;
-    let unshared = base.copy_unshared()?;
-    applies(&rt, &mut base, remove_r(&rt));
-    assert!(rt; !reads(&rt, &base, b"b", b"c"));
-    assert!(rt; reads(&rt, &shared, b"b", b"c"));
-    assert!(rt; reads(&rt, &unshared, b"b", b"c"));
-    Ok(())
+    changes_beside_copies(&rt, &mut base)
 }

@@ -8,7 +8,7 @@ use crate::protection::{EdgeFault, Graph, VertexFault};
 use crate::right_sets::{Right, Rights};
 use crate::rules::{Rule, RuleFault};
 use crate::test_values::{row_lengths, same};
-use std::alloc::AllocError;
+use std::alloc::{AllocError, Global};
 use std::process::Abort;
 use std::test::Fail;
 
@@ -64,7 +64,7 @@ fn applies(rt: &impl Abort, g: &mut Graph, rule: Rule) -> Result<(), AllocError>
 }
 
 // The vertex _0, which has t and g over itself.
-pub fn one(rt: &impl Abort, g: &mut Graph) -> Result<(), AllocError> {
+fn one(rt: &impl Abort, g: &mut Graph) -> Result<(), AllocError> {
     let (x, _, _) = names();
     adds_vertex(rt, g, x)?;
     adds_edge(
@@ -74,6 +74,13 @@ pub fn one(rt: &impl Abort, g: &mut Graph) -> Result<(), AllocError> {
         x,
         Rights::of(Right::T).union(Rights::of(Right::G)),
     )
+}
+
+// The graph with that vertex alone.
+pub fn lone(rt: &impl Abort, alloc: Global) -> Result<Graph, AllocError> {
+    let mut g = Graph::new(alloc);
+    one(rt, &mut g)?;
+    Ok(g)
 }
 
 // _0 creates _1 with g, grants it t over itself, and creates _2.
@@ -101,27 +108,33 @@ pub fn rule_at(place: usize) -> Rule
     }
 }
 
+// Applies the rules from the one place up to the other.
+fn applies_some(rt: &impl Abort, g: &mut Graph, from: usize, to: usize) {
+    for place in from..to {
+        assert!(rt; g.apply(&rule_at(place)) == Ok(()));
+    }
+}
+
 fn runs(rt: &impl Abort, g: &mut Graph) -> Result<(), AllocError> {
     let mut wanted = copied(rt, g)?;
     if let Err((place, fault)) = g.run(&[rule_at(0), rule_at(1), rule_at(2)]) {
         assert!(rt; fault == RuleFault::Memory);
-        for done in 0..place {
-            assert!(rt; wanted.apply(&rule_at(done)) == Ok(()));
-        }
+        applies_some(rt, &mut wanted, 0, place);
         assert!(rt; same(g, &wanted));
-        for left in place..3 {
-            assert!(rt; g.apply(&rule_at(left)) == Ok(()));
-        }
+        applies_some(rt, g, place, 3);
     }
     Ok(())
 }
 
+fn applies_two(rt: &impl Abort, g: &mut Graph) -> Result<(), AllocError> {
+    applies(rt, g, rule_at(0))?;
+    applies(rt, g, rule_at(1))
+}
+
 #[test]
 fn refused_rules(rt: HostRuntime) -> Result<(), Fail> {
-    let mut g = Graph::new(rt.alloc());
-    one(&rt, &mut g)?;
-    applies(&rt, &mut g, rule_at(0))?;
-    applies(&rt, &mut g, rule_at(1))?;
+    let mut g = lone(&rt, rt.alloc())?;
+    applies_two(&rt, &mut g)?;
     row_lengths(&rt, &g, &[2, 1]);
     Ok(())
 }
@@ -151,22 +164,24 @@ fn give_up() -> Rule
     }
 }
 
+fn changes(rt: &impl Abort, g: &mut Graph) -> Result<(), AllocError> {
+    applies(rt, g, rule_at(0))?;
+    applies(rt, g, take_again())?;
+    applies(rt, g, give_up())
+}
+
 // A row that a copy shares is copied before it changes.
 #[test]
 fn refused_changes_of_shared_rows(rt: HostRuntime) -> Result<(), Fail> {
-    let mut g = Graph::new(rt.alloc());
-    one(&rt, &mut g)?;
-    applies(&rt, &mut g, rule_at(0))?;
-    applies(&rt, &mut g, take_again())?;
-    applies(&rt, &mut g, give_up())?;
+    let mut g = lone(&rt, rt.alloc())?;
+    changes(&rt, &mut g)?;
     assert!(rt; g.len() == 2 && g.row_len(0) == 1);
     Ok(())
 }
 
 #[test]
 fn refused_in_a_run(rt: HostRuntime) -> Result<(), Fail> {
-    let mut g = Graph::new(rt.alloc());
-    one(&rt, &mut g)?;
+    let mut g = lone(&rt, rt.alloc())?;
     runs(&rt, &mut g)?;
     row_lengths(&rt, &g, &[3, 1, 0]);
     Ok(())

@@ -1,8 +1,11 @@
 // Rows whose edges come in various orders, and whose targets' names are shared or not.
+use crate::edges_to_all::EdgesToAll;
+use crate::listed_edges::ListedEdges;
 use crate::names::Name;
 use crate::protection::Graph;
+use crate::shared_names::SharedNames;
 use crate::test_values::{create, grant, name, remove, same, set, with_edge, with_vertex};
-use std::alloc::Global;
+use std::alloc::{AllocError, Global};
 use std::cmp::Ordering;
 use std::process::Abort;
 use std::test::Fail;
@@ -54,14 +57,21 @@ fn edges_in_any_order_make_one_row(rt: HostRuntime) {
     }
 }
 
+fn is_there(rt: &impl Abort, g: &mut Graph, x: &[u8], y: &[u8]) {
+    assert!(rt; g.add_edge(name(rt, x), name(rt, y), set(rt, b"t")).is_err());
+}
+
 #[test]
 fn an_edge_is_there_in_any_order(rt: HostRuntime) {
     let mut g = long_row(&rt, rt.alloc(), &[3, 5, 0, 4, 1, 2]);
     for target in LONG {
-        let again = g.add_edge(name(&rt, LONG[0]), name(&rt, target), set(&rt, b"t"));
-        assert!(rt; again.is_err());
+        is_there(&rt, &mut g, LONG[0], target);
     }
     leads_in_order(&rt, &g);
+}
+
+fn adds_edge(rt: &impl Abort, g: &mut Graph, x: Name, y: Name, letters: &[u8]) {
+    assert!(rt; g.add_edge(x, y, set(rt, letters)) == Ok(()));
 }
 
 // Each vertex comes with its edges: to itself, and to and from those before it. So most targets are
@@ -72,10 +82,10 @@ fn one_by_one(rt: &impl Abort, alloc: Global, count: u32) -> Graph {
         let n = Name::helper(last);
         assert!(rt; g.add_vertex(n) == Ok(()));
         for other in 0..last {
-            assert!(rt; g.add_edge(n, Name::helper(other), set(rt, b"r")) == Ok(()));
-            assert!(rt; g.add_edge(Name::helper(other), n, set(rt, b"w")) == Ok(()));
+            adds_edge(rt, &mut g, n, Name::helper(other), b"r");
+            adds_edge(rt, &mut g, Name::helper(other), n, b"w");
         }
-        assert!(rt; g.add_edge(n, n, set(rt, b"e")) == Ok(()));
+        adds_edge(rt, &mut g, n, n, b"e");
     }
     g
 }
@@ -93,19 +103,50 @@ fn all_at_once(rt: &impl Abort, alloc: Global, count: u32) -> Graph {
                 Ordering::Equal => b"e",
                 Ordering::Greater => b"r",
             };
-            assert!(rt; g.add_edge(Name::helper(x), Name::helper(y), set(rt, letters)) == Ok(()));
+            adds_edge(rt, &mut g, Name::helper(x), Name::helper(y), letters);
         }
     }
     g
+}
+
+fn has_same_copies(rt: &impl Abort, g: &Graph) -> Result<(), Fail> {
+    let shared = g.copy()?;
+    assert!(rt; same(g, &shared));
+    let unshared = g.copy_unshared()?;
+    assert!(rt; same(g, &unshared));
+    Ok(())
 }
 
 #[test]
 fn vertices_among_edges_make_the_same_graph(rt: HostRuntime) -> Result<(), Fail> {
     let g = one_by_one(&rt, rt.alloc(), 12);
     assert!(rt; same(&g, &all_at_once(&rt, rt.alloc(), 12)));
-    assert!(rt; same(&g, &g.copy()?));
-    assert!(rt; same(&g, &g.copy_unshared()?));
-    Ok(())
+    has_same_copies(&rt, &g)
+}
+
+// Vertices that come after those whose edges lead to them, not in name order.
+const CREATED: [&[u8]; 3] = [b"z", b"x", b"y"];
+
+fn creates_all(rt: &impl Abort, g: &mut Graph) {
+    for n in CREATED {
+        assert!(rt; g.apply(&create(rt, b"a", n, b"rw")) == Ok(()));
+    }
+}
+
+fn grants_all(rt: &impl Abort, g: &mut Graph) {
+    for n in CREATED {
+        assert!(rt; g.apply(&grant(rt, b"a", b"b", n, b"rw")) == Ok(()));
+    }
+}
+
+fn removes_all(rt: &impl Abort, g: &mut Graph) {
+    for n in CREATED {
+        assert!(rt; g.apply(&remove(rt, b"b", n, b"rw")) == Ok(()));
+    }
+}
+
+fn leads_to(rt: &impl Abort, g: &Graph, place: usize, n: &[u8]) {
+    assert!(rt; g.row_at(1, place) == Some((name(rt, n), set(rt, b"rw"))));
 }
 
 // Rights over vertices that were created after their names could be shared come and go, over and
@@ -116,19 +157,36 @@ fn edges_that_come_and_go(rt: HostRuntime) {
     with_vertex(&rt, &mut g, b"a");
     with_vertex(&rt, &mut g, b"b");
     with_edge(&rt, &mut g, b"a", b"b", b"g");
-    let created = [b"z".as_slice(), b"x".as_slice(), b"y".as_slice()];
-    for n in created {
-        assert!(rt; g.apply(&create(&rt, b"a", n, b"rw")) == Ok(()));
-    }
+    creates_all(&rt, &mut g);
     for _ in 0..30 {
-        for n in created {
-            assert!(rt; g.apply(&grant(&rt, b"a", b"b", n, b"rw")) == Ok(()));
-        }
-        assert!(rt; g.row_at(1, 0) == Some((name(&rt, b"x"), set(&rt, b"rw"))));
-        assert!(rt; g.row_at(1, 2) == Some((name(&rt, b"z"), set(&rt, b"rw"))));
-        for n in created {
-            assert!(rt; g.apply(&remove(&rt, b"b", n, b"rw")) == Ok(()));
-        }
+        grants_all(&rt, &mut g);
+        leads_to(&rt, &g, 0, b"x");
+        leads_to(&rt, &g, 2, b"z");
+        removes_all(&rt, &mut g);
         assert!(rt; g.row_len(1) == 0 && g.row_len(0) == 4);
     }
+}
+
+// Whether a list of edges to the names of LONG that have these numbers has one to each, in name
+// order.
+fn is_to_all(rt: &impl Abort, alloc: Global, numbers: &[usize]) -> Result<bool, AllocError> {
+    let mut names = Vec::new(alloc);
+    for n in LONG {
+        names.push(name(rt, n))?;
+    }
+    let mut list = ListedEdges::new(alloc, Some(SharedNames::new(alloc, names)?));
+    for number in numbers {
+        let pushed = list.push(name(rt, LONG[*number % 6]), set(rt, b"r"), *number)?;
+        assert!(rt; pushed);
+    }
+    Ok(EdgesToAll::of(&list).is_some())
+}
+
+#[test]
+fn lists_with_an_edge_to_each_name(rt: HostRuntime) -> Result<(), Fail> {
+    assert!(rt; is_to_all(&rt, rt.alloc(), &IN_ORDER)?);
+    assert!(rt; !is_to_all(&rt, rt.alloc(), &[5, 1, 0, 3, 2])?);
+    assert!(rt; !is_to_all(&rt, rt.alloc(), &[5, 1, 0, 3, 2, 4, 4])?);
+    assert!(rt; !is_to_all(&rt, rt.alloc(), &[0, 1, 2, 3, 4, 5])?);
+    Ok(())
 }

@@ -102,9 +102,7 @@ pub fn stands_at(rt: &impl Abort, g: &Graph, n: &[u8], position: usize) {
     assert!(rt; g.name_at(position) == Some(name(rt, n)));
 }
 
-/// The vertices a and b, and the edge between them if its label is not empty.
-pub fn two(rt: &impl Abort, alloc: Global, letters: &[u8]) -> Result<Graph, Fail> {
-    let mut g = Graph::new(alloc);
+fn add_two(rt: &impl Abort, g: &mut Graph, letters: &[u8]) -> Result<(), Fail> {
     let (a, b) = (name(rt, b"a"), name(rt, b"b"));
     g.add_vertex(a)?;
     g.add_vertex(b)?;
@@ -112,15 +110,27 @@ pub fn two(rt: &impl Abort, alloc: Global, letters: &[u8]) -> Result<Graph, Fail
     if !label.is_empty() {
         g.add_edge(a, b, label)?;
     }
+    Ok(())
+}
+
+/// The vertices a and b, and the edge between them if its label is not empty.
+pub fn two(rt: &impl Abort, alloc: Global, letters: &[u8]) -> Result<Graph, Fail> {
+    let mut g = Graph::new(alloc);
+    add_two(rt, &mut g, letters)?;
     Ok(g)
+}
+
+fn add_third(rt: &impl Abort, g: &mut Graph) -> Result<(), Fail> {
+    let c = name(rt, b"c");
+    g.add_vertex(c)?;
+    g.add_edge(name(rt, b"b"), c, set(rt, b"r"))?;
+    Ok(())
 }
 
 /// The vertices a, b and c, where a has t over b, and b has r over c.
 pub fn three(rt: &impl Abort, alloc: Global) -> Result<Graph, Fail> {
     let mut g = two(rt, alloc, b"t")?;
-    let c = name(rt, b"c");
-    g.add_vertex(c)?;
-    g.add_edge(name(rt, b"b"), c, set(rt, b"r"))?;
+    add_third(rt, &mut g)?;
     Ok(g)
 }
 

@@ -10,6 +10,7 @@ use crate::test_values::{
     with_edge, with_vertex,
 };
 use bitflags::Flags;
+use std::alloc::Global;
 use std::process::Abort;
 use std::test::Fail;
 
@@ -27,65 +28,73 @@ fn refuses(rt: &impl Abort, g: &mut Graph, rule: Rule, refusal: Refusal)
     assert!(rt; g.apply(&rule) == Err(RuleFault::Refused(refusal)));
 }
 
-// The refusal of a rule for a name that is no vertex.
-fn unknown(rt: &impl Abort, bytes: &[u8]) -> Refusal {
-    Refusal::Unknown(name(rt, bytes))
+// The rule is refused for z, which is no vertex.
+fn misses_z(rt: &impl Abort, g: &mut Graph, rule: Rule)
+    requires { IsNamed (rights_of rule) }
+{
+    refuses(rt, g, rule, Refusal::Unknown(name(rt, b"z")));
+}
+
+fn is_no_name(rt: &impl Abort, bytes: &[u8], fault: NameFault) {
+    assert!(rt; Name::parse(bytes) == Err(fault));
+}
+
+fn stands_before(rt: &impl Abort, one: &[u8], other: &[u8]) {
+    assert!(rt; name(rt, one) < name(rt, other));
 }
 
 #[test]
 fn names(rt: HostRuntime) {
-    for (bytes, fault) in [
-        (b"".as_slice(), NameFault::Empty),
-        (b"Abcdefghijklmnopq".as_slice(), NameFault::TooLong),
-        (b"9a".as_slice(), NameFault::BadByte(0)),
-        (b"a-b".as_slice(), NameFault::BadByte(1)),
-    ] {
-        assert!(rt; Name::parse(bytes) == Err(fault));
-    }
+    is_no_name(&rt, b"", NameFault::Empty);
+    is_no_name(&rt, b"Abcdefghijklmnopq", NameFault::TooLong);
+    is_no_name(&rt, b"9a", NameFault::BadByte(0));
+    is_no_name(&rt, b"a-b", NameFault::BadByte(1));
     assert!(rt; Name::parse(b"_9").is_ok());
     assert!(rt; name(&rt, b"ab").as_bytes() == b"ab".as_slice());
-    assert!(rt; name(&rt, b"ab") < name(&rt, b"aba") && name(&rt, b"aba") < name(&rt, b"ac"));
+    stands_before(&rt, b"ab", b"aba");
+    stands_before(&rt, b"aba", b"ac");
+}
+
+// The name at the front of the bytes, and what is left of them.
+fn cuts(rt: &impl Abort, bytes: &[u8], front: &[u8], rest: &[u8]) {
+    let found = match Name::at_front(bytes) {
+        Some(cut) => cut.0.as_bytes() == front && cut.1 == rest,
+        None => false,
+    };
+    assert!(rt; found);
 }
 
 #[test]
 fn names_at_the_front(rt: HostRuntime) {
-    for (bytes, front, rest) in [
-        (b"a".as_slice(), b"a".as_slice(), b"".as_slice()),
-        (b"v12 b".as_slice(), b"v12".as_slice(), b" b".as_slice()),
-        (b"_9\n".as_slice(), b"_9".as_slice(), b"\n".as_slice()),
-        (b"ab-c".as_slice(), b"ab".as_slice(), b"-c".as_slice()),
-        (
-            b"abcdefghijklmno0".as_slice(),
-            b"abcdefghijklmno0".as_slice(),
-            b"".as_slice(),
-        ),
-        (
-            b"abcdefghijklmnopq r".as_slice(),
-            b"abcdefghijklmnop".as_slice(),
-            b"q r".as_slice(),
-        ),
-    ] {
-        let found = match Name::at_front(bytes) {
-            Some(cut) => cut.0.as_bytes() == front && cut.1 == rest,
-            None => false,
-        };
-        assert!(rt; found);
-    }
-    for bytes in [
-        b"".as_slice(),
-        b" a".as_slice(),
-        b"9a".as_slice(),
-        b"Ab".as_slice(),
-    ] {
-        assert!(rt; Name::at_front(bytes).is_none());
-    }
+    cuts(&rt, b"a", b"a", b"");
+    cuts(&rt, b"v12 b", b"v12", b" b");
+    cuts(&rt, b"_9\n", b"_9", b"\n");
+    cuts(&rt, b"ab-c", b"ab", b"-c");
+    cuts(&rt, b"abcdefghijklmno0", b"abcdefghijklmno0", b"");
+    cuts(&rt, b"abcdefghijklmnopq r", b"abcdefghijklmnop", b"q r");
+}
+
+fn has_no_front(rt: &impl Abort, bytes: &[u8]) {
+    assert!(rt; Name::at_front(bytes).is_none());
+}
+
+#[test]
+fn no_name_at_the_front(rt: HostRuntime) {
+    has_no_front(&rt, b"");
+    has_no_front(&rt, b" a");
+    has_no_front(&rt, b"9a");
+    has_no_front(&rt, b"Ab");
+}
+
+fn is_helper(rt: &impl Abort, number: u32, bytes: &[u8]) {
+    assert!(rt; Name::helper(number).as_bytes() == bytes);
 }
 
 #[test]
 fn names_of_helpers(rt: HostRuntime) {
-    assert!(rt; Name::helper(0).as_bytes() == b"_0".as_slice());
-    assert!(rt; Name::helper(120).as_bytes() == b"_120".as_slice());
-    assert!(rt; Name::helper(4_294_967_295).as_bytes() == b"_4294967295".as_slice());
+    is_helper(&rt, 0, b"_0");
+    is_helper(&rt, 120, b"_120");
+    is_helper(&rt, 4_294_967_295, b"_4294967295");
 }
 
 #[test]
@@ -100,19 +109,19 @@ fn letters(rt: HostRuntime) {
     );
 }
 
+fn is_no_set(rt: &impl Abort, word: &[u8]) {
+    assert!(rt; Rights::from_letters(word).is_none());
+}
+
 #[test]
 fn words_that_are_no_set(rt: HostRuntime) {
-    for word in [
-        b"".as_slice(),
-        b"tt".as_slice(),
-        b"tgt".as_slice(),
-        b"tx".as_slice(),
-        b"T".as_slice(),
-        b"--".as_slice(),
-        b"t-".as_slice(),
-    ] {
-        assert!(rt; Rights::from_letters(word).is_none());
-    }
+    is_no_set(&rt, b"");
+    is_no_set(&rt, b"tt");
+    is_no_set(&rt, b"tgt");
+    is_no_set(&rt, b"tx");
+    is_no_set(&rt, b"T");
+    is_no_set(&rt, b"--");
+    is_no_set(&rt, b"t-");
 }
 
 #[test]
@@ -167,13 +176,17 @@ fn graph_calls(rt: HostRuntime) {
     only_reads_itself(&rt, &g);
 }
 
+fn refuses_edges_from_z(rt: &impl Abort, g: &mut Graph) {
+    let (a, y, z) = (name(rt, b"a"), name(rt, b"y"), name(rt, b"z"));
+    assert!(rt; g.add_edge(z, a, set(rt, b"r")) == Err(EdgeFault::Unknown(z)));
+    assert!(rt; g.add_edge(z, y, set(rt, b"-")) == Err(EdgeFault::Unknown(z)));
+    assert!(rt; g.position(z).is_none() && g.name_at(2).is_none());
+}
+
 #[test]
 fn edges_from_no_vertex(rt: HostRuntime) -> Result<(), Fail> {
     let mut g = two(&rt, rt.alloc(), b"-")?;
-    let (a, y, z) = (name(&rt, b"a"), name(&rt, b"y"), name(&rt, b"z"));
-    assert!(rt; g.add_edge(z, a, set(&rt, b"r")) == Err(EdgeFault::Unknown(z)));
-    assert!(rt; g.add_edge(z, y, set(&rt, b"-")) == Err(EdgeFault::Unknown(z)));
-    assert!(rt; g.position(z).is_none() && g.name_at(2).is_none());
+    refuses_edges_from_z(&rt, &mut g);
     Ok(())
 }
 
@@ -192,100 +205,117 @@ fn has_rights_at(rt: &impl Abort, g: &Graph, position: usize, y: &[u8], letters:
     assert!(rt; g.rights_at(position, name(rt, y)) == set(rt, letters));
 }
 
+// The vertices b and a, where b has r over itself.
+fn b_before_a(rt: &impl Abort, alloc: Global) -> Graph {
+    let mut g = Graph::new(alloc);
+    with_vertex(rt, &mut g, b"b");
+    with_vertex(rt, &mut g, b"a");
+    with_edge(rt, &mut g, b"b", b"b", b"r");
+    g
+}
+
+fn has_rights_by_position(rt: &impl Abort, g: &Graph) {
+    has_rights_at(rt, g, 0, b"b", b"r");
+    has_rights_at(rt, g, 0, b"a", b"-");
+    has_rights_at(rt, g, 1, b"b", b"wg");
+    has_rights_at(rt, g, 1, b"c", b"-");
+    has_rights_at(rt, g, 2, b"b", b"-");
+}
+
 #[test]
 fn rights_by_position(rt: HostRuntime) {
-    let mut g = Graph::new(rt.alloc());
-    with_vertex(&rt, &mut g, b"b");
-    with_vertex(&rt, &mut g, b"a");
-    with_edge(&rt, &mut g, b"b", b"b", b"r");
+    let mut g = b_before_a(&rt, rt.alloc());
     with_edge(&rt, &mut g, b"a", b"b", b"gw");
-    has_rights_at(&rt, &g, 0, b"b", b"r");
-    has_rights_at(&rt, &g, 0, b"a", b"-");
-    has_rights_at(&rt, &g, 1, b"b", b"wg");
-    has_rights_at(&rt, &g, 1, b"c", b"-");
-    has_rights_at(&rt, &g, 2, b"b", b"-");
+    has_rights_by_position(&rt, &g);
+}
+
+fn has_first_row(rt: &impl Abort, g: &Graph) {
+    has_edge_at(rt, g, 0, 0, b"a", b"w");
+    has_edge_at(rt, g, 0, 1, b"b", b"r");
+    assert!(rt; g.row_at(0, 2).is_none());
 }
 
 #[test]
 fn positions_and_rows(rt: HostRuntime) {
-    let mut g = Graph::new(rt.alloc());
-    with_vertex(&rt, &mut g, b"b");
-    with_vertex(&rt, &mut g, b"a");
-    with_edge(&rt, &mut g, b"b", b"b", b"r");
+    let mut g = b_before_a(&rt, rt.alloc());
     with_edge(&rt, &mut g, b"b", b"a", b"w");
     stands_at(&rt, &g, b"b", 0);
     stands_at(&rt, &g, b"a", 1);
     row_lengths(&rt, &g, &[2, 0]);
-    has_edge_at(&rt, &g, 0, 0, b"a", b"w");
-    has_edge_at(&rt, &g, 0, 1, b"b", b"r");
-    assert!(rt; g.row_at(0, 2).is_none());
+    has_first_row(&rt, &g);
+}
+
+// a takes r over c in the copy alone.
+fn takes_apart(rt: &impl Abort, g: &Graph, copy: &mut Graph) {
+    accepts(rt, copy, take(rt, b"a", b"b", b"c", b"r"));
+    assert!(rt; reads(rt, copy, b"a", b"c"));
+    assert!(rt; !reads(rt, g, b"a", b"c"));
+}
+
+fn copies_apart(rt: &impl Abort, g: &Graph) -> Result<(), Fail> {
+    let mut copy = g.copy()?;
+    assert!(rt; same(g, &copy));
+    takes_apart(rt, g, &mut copy);
+    Ok(())
 }
 
 #[test]
 fn a_copy_apart(rt: HostRuntime) -> Result<(), Fail> {
     let g = three(&rt, rt.alloc())?;
-    let mut copy = g.copy()?;
-    assert!(rt; same(&g, &copy));
-    accepts(&rt, &mut copy, take(&rt, b"a", b"b", b"c", b"r"));
-    assert!(rt; reads(&rt, &copy, b"a", b"c"));
-    assert!(rt; !reads(&rt, &g, b"a", b"c"));
-    Ok(())
+    copies_apart(&rt, &g)
+}
+
+fn runs_two(rt: &impl Abort, g: &mut Graph) {
+    let rules = [
+        take(rt, b"a", b"b", b"c", b"r"),
+        remove(rt, b"b", b"c", b"r"),
+        take(rt, b"a", b"b", b"c", b"w"),
+        create(rt, b"a", b"n", b"-"),
+    ];
+    let fault = RuleFault::Refused(Refusal::NotHeld(set(rt, b"w")));
+    assert!(rt; g.run(&rules) == Err((2, fault)));
+}
+
+// What the run left: neither the third rule nor the last was applied.
+fn ran_two(rt: &impl Abort, g: &Graph) {
+    assert!(rt; reads(rt, g, b"a", b"c"));
+    assert!(rt; g.row_len(1) == 0 && !g.knows(name(rt, b"n")));
 }
 
 #[test]
 fn a_run_up_to_a_refusal(rt: HostRuntime) -> Result<(), Fail> {
     let mut g = three(&rt, rt.alloc())?;
-    let rules = [
-        take(&rt, b"a", b"b", b"c", b"r"),
-        remove(&rt, b"b", b"c", b"r"),
-        take(&rt, b"a", b"b", b"c", b"w"),
-        create(&rt, b"a", b"n", b"-"),
-    ];
-    let fault = RuleFault::Refused(Refusal::NotHeld(set(&rt, b"w")));
-    assert!(rt; g.run(&rules) == Err((2, fault)));
-    assert!(rt; g.holds(name(&rt, b"a"), Right::R, name(&rt, b"c")));
-    assert!(rt; g.row_len(1) == 0 && !g.knows(name(&rt, b"n")));
+    runs_two(&rt, &mut g);
+    ran_two(&rt, &g);
     Ok(())
+}
+
+fn runs_all(rt: &impl Abort, g: &mut Graph) {
+    let rules = [
+        take(rt, b"a", b"b", b"c", b"r"),
+        remove(rt, b"b", b"c", b"r"),
+    ];
+    assert!(rt; g.run(&rules) == Ok(()));
 }
 
 #[test]
 fn a_run_of_all(rt: HostRuntime) -> Result<(), Fail> {
     let mut g = three(&rt, rt.alloc())?;
-    let rules = [
-        take(&rt, b"a", b"b", b"c", b"r"),
-        remove(&rt, b"b", b"c", b"r"),
-    ];
-    assert!(rt; g.run(&rules) == Ok(()));
+    runs_all(&rt, &mut g);
     Ok(())
+}
+
+fn refuses_takes(rt: &impl Abort, g: &mut Graph) {
+    misses_z(rt, g, take(rt, b"z", b"b", b"y", b"r"));
+    misses_z(rt, g, take(rt, b"a", b"b", b"z", b"r"));
+    refuses(rt, g, take(rt, b"a", b"b", b"b", b"-"), Refusal::Empty);
+    refuses(rt, g, take(rt, b"a", b"b", b"b", b"r"), Refusal::NoTake);
 }
 
 #[test]
 fn refused_takes(rt: HostRuntime) -> Result<(), Fail> {
     let mut g = two(&rt, rt.alloc(), b"-")?;
-    refuses(
-        &rt,
-        &mut g,
-        take(&rt, b"z", b"b", b"y", b"r"),
-        unknown(&rt, b"z"),
-    );
-    refuses(
-        &rt,
-        &mut g,
-        take(&rt, b"a", b"b", b"z", b"r"),
-        unknown(&rt, b"z"),
-    );
-    refuses(
-        &rt,
-        &mut g,
-        take(&rt, b"a", b"b", b"b", b"-"),
-        Refusal::Empty,
-    );
-    refuses(
-        &rt,
-        &mut g,
-        take(&rt, b"a", b"b", b"b", b"r"),
-        Refusal::NoTake,
-    );
+    refuses_takes(&rt, &mut g);
     Ok(())
 }
 
@@ -297,100 +327,113 @@ fn takes_of_what_is_not_held(rt: HostRuntime) -> Result<(), Fail> {
     Ok(())
 }
 
+fn refuses_first(rt: &impl Abort, g: &mut Graph) {
+    refuses(rt, g, grant(rt, b"b", b"a", b"c", b"-"), Refusal::Empty);
+    misses_z(rt, g, remove(rt, b"a", b"z", b"-"));
+    misses_z(rt, g, take(rt, b"z", b"y", b"a", b"-"));
+}
+
 #[test]
 fn the_first_refusal_of_several(rt: HostRuntime) -> Result<(), Fail> {
     let mut g = three(&rt, rt.alloc())?;
-    refuses(
-        &rt,
-        &mut g,
-        grant(&rt, b"b", b"a", b"c", b"-"),
-        Refusal::Empty,
-    );
-    refuses(
-        &rt,
-        &mut g,
-        remove(&rt, b"a", b"z", b"-"),
-        unknown(&rt, b"z"),
-    );
-    refuses(
-        &rt,
-        &mut g,
-        take(&rt, b"z", b"y", b"a", b"-"),
-        unknown(&rt, b"z"),
-    );
+    refuses_first(&rt, &mut g);
     Ok(())
+}
+
+// a gives up the letters over b, and then its row has this length.
+fn gives_up(rt: &impl Abort, g: &mut Graph, letters: &[u8], length: usize) {
+    accepts(rt, g, remove(rt, b"a", b"b", letters));
+    assert!(rt; g.row_len(0) == length);
+}
+
+fn removes_by_letter(rt: &impl Abort, g: &mut Graph) {
+    gives_up(rt, g, b"w", 1);
+    gives_up(rt, g, b"r", 0);
+    refuses(rt, g, remove(rt, b"a", b"b", b"-"), Refusal::Empty);
 }
 
 #[test]
 fn removes(rt: HostRuntime) -> Result<(), Fail> {
     let mut g = two(&rt, rt.alloc(), b"r")?;
-    accepts(&rt, &mut g, remove(&rt, b"a", b"b", b"w"));
-    assert!(rt; g.row_len(0) == 1);
-    accepts(&rt, &mut g, remove(&rt, b"a", b"b", b"r"));
-    assert!(rt; g.row_len(0) == 0);
-    refuses(&rt, &mut g, remove(&rt, b"a", b"b", b"-"), Refusal::Empty);
+    removes_by_letter(&rt, &mut g);
     Ok(())
+}
+
+fn grants_g(rt: &impl Abort, g: &mut Graph) {
+    let missing = Refusal::NotHeld(set(rt, b"r"));
+    refuses(rt, g, grant(rt, b"b", b"a", b"a", b"r"), Refusal::NoGrant);
+    refuses(rt, g, grant(rt, b"a", b"b", b"b", b"r"), missing);
+    accepts(rt, g, grant(rt, b"a", b"b", b"b", b"g"));
+    assert!(rt; g.row_len(0) == 1);
+    has_edge_at(rt, g, 1, 0, b"b", b"g");
 }
 
 #[test]
 fn grants(rt: HostRuntime) -> Result<(), Fail> {
     let mut g = two(&rt, rt.alloc(), b"g")?;
-    let missing = Refusal::NotHeld(set(&rt, b"r"));
-    refuses(
-        &rt,
-        &mut g,
-        grant(&rt, b"b", b"a", b"a", b"r"),
-        Refusal::NoGrant,
-    );
-    refuses(&rt, &mut g, grant(&rt, b"a", b"b", b"b", b"r"), missing);
-    accepts(&rt, &mut g, grant(&rt, b"a", b"b", b"b", b"g"));
-    assert!(rt; g.row_len(0) == 1 && g.row_at(1, 0) == Some((name(&rt, b"b"), set(&rt, b"g"))));
+    grants_g(&rt, &mut g);
     Ok(())
+}
+
+fn grows_and_shrinks(rt: &impl Abort, g: &mut Graph) {
+    accepts(rt, g, grant(rt, b"a", b"b", b"b", b"r"));
+    accepts(rt, g, grant(rt, b"a", b"b", b"b", b"gt"));
+    accepts(rt, g, remove(rt, b"b", b"b", b"t"));
+    assert!(rt; g.row_len(1) == 1);
+    has_edge_at(rt, g, 1, 0, b"b", b"gr");
 }
 
 #[test]
 fn labels_that_grow_and_shrink(rt: HostRuntime) -> Result<(), Fail> {
     let mut g = two(&rt, rt.alloc(), b"tgr")?;
-    let b = name(&rt, b"b");
-    accepts(&rt, &mut g, grant(&rt, b"a", b"b", b"b", b"r"));
-    accepts(&rt, &mut g, grant(&rt, b"a", b"b", b"b", b"gt"));
-    accepts(&rt, &mut g, remove(&rt, b"b", b"b", b"t"));
-    assert!(rt; g.row_len(1) == 1 && g.row_at(1, 0) == Some((b, set(&rt, b"gr"))));
+    grows_and_shrinks(&rt, &mut g);
     Ok(())
+}
+
+fn refuses_creates(rt: &impl Abort, g: &mut Graph) {
+    let taken = Refusal::Taken(name(rt, b"a"));
+    refuses(rt, g, create(rt, b"a", b"a", b"-"), taken);
+    misses_z(rt, g, create(rt, b"z", b"b", b"-"));
 }
 
 #[test]
 fn refused_creates(rt: HostRuntime) -> Result<(), Fail> {
     let mut g = two(&rt, rt.alloc(), b"-")?;
-    let taken = Refusal::Taken(name(&rt, b"a"));
-    refuses(&rt, &mut g, create(&rt, b"a", b"a", b"-"), taken);
-    refuses(
-        &rt,
-        &mut g,
-        create(&rt, b"z", b"b", b"-"),
-        unknown(&rt, b"z"),
-    );
+    refuses_creates(&rt, &mut g);
     Ok(())
+}
+
+// a creates c without rights over it.
+fn creates_apart(rt: &impl Abort, g: &mut Graph) {
+    accepts(rt, g, create(rt, b"a", b"c", b"-"));
+    assert!(rt; g.position(name(rt, b"c")) == Some(2) && g.row_len(0) == 1 && g.row_len(2) == 0);
+}
+
+// a creates n with rights over it.
+fn creates_below(rt: &impl Abort, g: &mut Graph) {
+    accepts(rt, g, create(rt, b"a", b"n", b"tg"));
+    has_edge_at(rt, g, 0, 1, b"n", b"gt");
 }
 
 #[test]
 fn creates(rt: HostRuntime) -> Result<(), Fail> {
     let mut g = two(&rt, rt.alloc(), b"g")?;
-    accepts(&rt, &mut g, create(&rt, b"a", b"c", b"-"));
-    assert!(rt; g.position(name(&rt, b"c")) == Some(2) && g.row_len(0) == 1 && g.row_len(2) == 0);
-    accepts(&rt, &mut g, create(&rt, b"a", b"n", b"tg"));
-    assert!(rt; g.row_at(0, 1) == Some((name(&rt, b"n"), set(&rt, b"gt"))));
+    creates_apart(&rt, &mut g);
+    creates_below(&rt, &mut g);
     Ok(())
 }
 
+// a takes t over itself from itself, and then has that alone.
+fn takes_in_place(rt: &impl Abort, g: &mut Graph) {
+    accepts(rt, g, take(rt, b"a", b"a", b"a", b"t"));
+    let a = name(rt, b"a");
+    assert!(rt; g.row_len(0) == 1 && g.label(a, a) == Some(set(rt, b"t")));
+}
+
 #[test]
-fn one_vertex_in_all_places(rt: HostRuntime) -> Result<(), Fail> {
+fn one_vertex_in_all_places(rt: HostRuntime) {
     let mut g = Graph::new(rt.alloc());
-    let a = name(&rt, b"a");
-    let t = set(&rt, b"t");
-    g.add_vertex(a)?;
-    g.add_edge(a, a, t)?;
-    accepts(&rt, &mut g, take(&rt, b"a", b"a", b"a", b"t"));
-    assert!(rt; g.row_len(0) == 1 && g.label(a, a) == Some(t));
-    Ok(())
+    with_vertex(&rt, &mut g, b"a");
+    with_edge(&rt, &mut g, b"a", b"a", b"t");
+    takes_in_place(&rt, &mut g);
 }
