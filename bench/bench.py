@@ -140,6 +140,8 @@ def workloads(count):
     collided = with_names(edges, colliding(count))
     yield "check of names that collide", MANY, "edges", collided, None, ["check"]
     yield "the same in random order", MANY, "edges", shuffled(collided), None, ["check"]
+    hub, acts = with_names(star(count), colliding(count)), with_names(rules(count, 65536), colliding(count))
+    yield "apply with names that collide", 65536, "rules", hub, acts, ["apply"]
     yield "islands", MANY, "edges", edges, None, ["islands"]
     yield "islands of one vertex", count, "islands", chain(count, "r"), None, ["islands"]
     yield "share", MANY, "edges", edges, None, ["share", "r", "v0", last]
@@ -151,6 +153,8 @@ def workloads(count):
     for seats in (1, 16, 64):
         title = f"run by {seats} seat{'s' * (seats > 1)}"
         yield title, 4096, "commits", sparse(count, 4096), script(seats, 4096, count), ["run"]
+    graph, events = with_names(sparse(count, 4096), colliding(count)), with_names(script(16, 4096, count), colliding(count))
+    yield "run by 16 seats with names that collide", 4096, "commits", graph, events, ["run"]
 
 
 # The shell leaves the program to this process and ends; only then does the program begin. A process's peak counts
