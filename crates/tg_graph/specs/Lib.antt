@@ -7,6 +7,7 @@ pub mod RuleWords
 pub mod RuleLists
 pub mod Rows
 pub mod GraphOf
+pub mod Halves
 pub mod Additions
 pub mod Letters
 pub mod RowsOf

@@ -18,7 +18,7 @@ use std::marker::Model;
 const MANY_EDGES: usize = 16;
 
 // And as many as this part of the vertices. So there is an edge for each so many labels that wait.
-const PART_OF_VERTICES: usize = 16;
+const PART_OF_VERTICES: usize = 32;
 
 /// A graph that is built, as from a text.
 ///

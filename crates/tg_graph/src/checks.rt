@@ -72,8 +72,11 @@ pub(crate) fn holds<R: Rows>(rows: &R, x: Name, right: Right, y: Name) -> bool
     label_between(rows, x, y).has(right)
 }
 
+// The four checks are compiled by themselves, so that names stay whole where they are looked up.
+
 // The first refusal of a take.
 #[tactic(auto, unfolding(crate::specs::Rules::refusal_of, crate::specs::Rules::after))]
+#[inline(never)]
 fn check_take<R: Rows>(rows: &R, x: Name, y: Name, z: Name, rights: Rights) -> Result<(), Refusal>
     requires { IsNamed rights }
     ensures { result ≡ verdict
@@ -99,6 +102,7 @@ fn check_take<R: Rows>(rows: &R, x: Name, y: Name, z: Name, rights: Rights) -> R
 
 // The first refusal of a grant.
 #[tactic(auto, unfolding(crate::specs::Rules::refusal_of, crate::specs::Rules::after))]
+#[inline(never)]
 fn check_grant<R: Rows>(rows: &R, x: Name, y: Name, z: Name, rights: Rights) -> Result<(), Refusal>
     requires { IsNamed rights }
     ensures { result ≡ verdict
@@ -124,6 +128,7 @@ fn check_grant<R: Rows>(rows: &R, x: Name, y: Name, z: Name, rights: Rights) -> 
 
 // The first refusal of a create.
 #[tactic(auto, unfolding(crate::specs::Rules::refusal_of, crate::specs::Rules::after))]
+#[inline(never)]
 fn check_create<R: Rows>(rows: &R, x: Name, n: Name, rights: Rights) -> Result<(), Refusal>
     ensures { result ≡ verdict
         (refusal_of (graph_of (R.entries rows.now)) (Rule.Create x n rights)) }
@@ -139,6 +144,7 @@ fn check_create<R: Rows>(rows: &R, x: Name, n: Name, rights: Rights) -> Result<(
 
 // The first refusal of a remove.
 #[tactic(auto, unfolding(crate::specs::Rules::refusal_of, crate::specs::Rules::after))]
+#[inline(never)]
 fn check_remove<R: Rows>(rows: &R, x: Name, y: Name, rights: Rights) -> Result<(), Refusal>
     ensures { result ≡ verdict
         (refusal_of (graph_of (R.entries rows.now)) (Rule.Remove x y rights)) }

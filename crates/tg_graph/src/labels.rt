@@ -1,5 +1,5 @@
 //! Labels by position.
-ghost use Rattle.std.specs.Prelude.{◌≡◌, ◌<◌, [], IfOk, get_or, length, not, true, replicate, slice_set};
+ghost use Rattle.std.specs.Prelude.{◌≡◌, ◌<◌, ℕ, [], IfOk, get_or, length, not, true, replicate, slice_set};
 ghost use Rattle.std.specs.List.{AllByRecursion};
 ghost use Rattle.tg_graph.specs.Sets.{IsNamed, is_empty_set, nothing};
 
@@ -75,6 +75,18 @@ impl Labels {
             Some(label) => !label.is_empty(),
             None => false,
         }
+    }
+
+    /// Whether there is no label that has a right. The loop goes on behind one that has, so that it is
+    /// compiled to few steps for many labels.
+    pub fn is_clear(&self) -> bool
+        ensures { result ≡ true → (k : ℕ) → get_or self.now k nothing ≡ nothing }
+    {
+        let mut found = false;
+        for i in 0..self.labels.len() {
+            found |= !self.labels[i].is_empty();
+        }
+        !found
     }
 
     /// The label at a position.

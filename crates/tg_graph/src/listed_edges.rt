@@ -246,6 +246,7 @@ impl ListedEdges {
 
     /// Puts an edge behind the others where the number is that of its target, and says whether it
     /// was put there.
+    #[inline(always)]
     pub fn push(&mut self, target: Name, label: Rights, number: usize) -> Result<bool, AllocError>
         ensures pushed { IfOk result
             (λ pushed. self.new ≡ (if pushed then self.old ++ (target, label) ∷ [] else self.old)) }

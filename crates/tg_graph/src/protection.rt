@@ -275,9 +275,10 @@ impl Graph {
         let Some(source) = self.position_near(self.source, x) else {
             return Ok(());
         };
+        let number = self.position(y);
         let hint = Hint {
             names: self.names.as_ref(),
-            number: None,
+            number,
         };
         widen(&mut self.rows, source, x, y, rights, hint)?;
         Ok(())

@@ -3,6 +3,7 @@ ghost use Rattle.std.specs.Prelude.{◌≡◌, true, Some, None, ◌<◌, ◌≤
 ghost use Rattle.std.specs.Map.{lookup};
 ghost use Rattle.tg_graph.specs.Sets.{IsNamed};
 ghost use Rattle.tg_graph.specs.Rows.{label_in, IsLabel, IsRow, Puts, Adds, TakesAway, IsPlaceOf, IsGapFor, AreBelow, AreAbove};
+ghost use Rattle.tg_graph.specs.Halves.{LastIsNotAbove};
 
 use crate::edge_list::EdgeList;
 use crate::names::Name;
@@ -103,23 +104,41 @@ impl Row {
         place < self.edges.len() && self.edges.target(place) == y
     }
 
-    // Where the edge to y is, or where it would go, found by halves.
-    fn place_by_halves(&self, y: Name) -> Result<usize, usize>
-        ensures found { IfOk result (IsPlaceOf self.now y) }
-        ensures absent { IfErr result (IsGapFor self.now y) }
+    // How many targets stand in front of the first that is above y, found by halves.
+    fn count_up_to(&self, y: Name) -> usize
+        ensures within { result ≤ length self.now }
+        ensures last { LastIsNotAbove self.now y result }
+        ensures above { AreAbove self.now y result }
         ensures row { IsRow self.now }
     {
         let mut low = 0;
         let mut high = self.edges.len();
         while low < high {
             let middle = low + (high - low) / 2;
-            match self.edges.target(middle).cmp(&y) {
-                Ordering::Less => low = middle + 1,
-                Ordering::Greater => high = middle,
-                Ordering::Equal => return Ok(middle),
+            if self.edges.target(middle).cmp(&y).is_gt() {
+                high = middle;
+            } else {
+                low = middle + 1;
             }
         }
-        Err(low)
+        low
+    }
+
+    // Where the edge to y is, or where it would go, found by halves.
+    fn place_by_halves(&self, y: Name) -> Result<usize, usize>
+        ensures found { IfOk result (IsPlaceOf self.now y) }
+        ensures absent { IfErr result (IsGapFor self.now y) }
+        ensures row { IsRow self.now }
+    {
+        let count = self.count_up_to(y);
+        if count == 0 {
+            return Err(0);
+        }
+        match self.edges.target(count - 1).cmp(&y) {
+            Ordering::Less => Err(count),
+            Ordering::Equal => Ok(count - 1),
+            Ordering::Greater => unreachable!(),
+        }
     }
 
     /// Where the edge to y is, or where it would go. It is found at once where there are edges to all
@@ -233,6 +252,7 @@ impl Row {
 
     /// Adds the edge to y behind the others where the number is that of y and no target is above y,
     /// and says whether it was added.
+    #[inline(always)]
     pub fn push(&mut self, y: Name, label: Rights, number: usize) -> Result<bool, AllocError>
         requires { IsLabel label }
         ensures pushed { IfOk result

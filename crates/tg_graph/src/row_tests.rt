@@ -190,3 +190,20 @@ fn lists_with_an_edge_to_each_name(rt: HostRuntime) -> Result<(), Fail> {
     assert!(rt; !is_to_all(&rt, rt.alloc(), &[0, 1, 2, 3, 4, 5])?);
     Ok(())
 }
+
+// So many names that some stand beside their slot, and some are found by their order alone.
+const MANY: u32 = 100;
+
+#[test]
+fn each_shared_name_is_found(rt: HostRuntime) -> Result<(), Fail> {
+    let mut names = Vec::new(rt.alloc());
+    for number in 0..MANY {
+        names.push(Name::helper(number))?;
+    }
+    let shared = SharedNames::new(rt.alloc(), names)?;
+    for number in 0..MANY {
+        assert!(rt; shared.find(Name::helper(number)) == Some(number as usize));
+    }
+    assert!(rt; shared.find(Name::helper(MANY)).is_none());
+    Ok(())
+}

@@ -12,6 +12,8 @@ const SLOTS_A_NAME: usize = 4;
 // Where a name may stand: its place in the name order, and its number.
 #[derive(Clone, Copy)]
 struct Slot {
+    // What the name spreads to, by which it is known here, or 0 where no name stands.
+    spread: u32,
     rank: u32,
     number: u32,
 }
@@ -24,8 +26,8 @@ struct NameTable {
     in_order: Arc<Vec<Name>>,
     // Their numbers, in the same order.
     numbers: Vec<u32>,
-    // A name whose slot has another's is looked for in the order, so that no choice of names makes a
-    // look-up dear.
+    // A name whose slot has another's stands at the slot beside it. Where that has another's too, the
+    // name is looked for in the order, so that no choice of names makes a look-up dear.
     slots: Vec<Slot>,
 }
 
@@ -77,20 +79,41 @@ fn in_order(alloc: Global, names: &[Name]) -> Result<(Vec<Name>, Vec<u32>), Allo
     Ok((in_order, numbers))
 }
 
-// The slot of a name among so many, if there are any.
-fn slot_of(name: Name, slots: usize) -> usize {
-    let spread = u64::from(name.spread());
-    (spread.wrapping_mul(slots as u64) >> 32) as usize
+// The slot among so many of a name that spreads to this, if there are any.
+fn slot_of(spread: u32, slots: usize) -> usize {
+    (u64::from(spread).wrapping_mul(slots as u64) >> 32) as usize
 }
 
-// At the slot of each name where the last name with that slot stands.
+// The slot beside a slot: they come in pairs.
+fn slot_beside(slot: usize) -> usize {
+    slot ^ 1
+}
+
+// Where a name that spreads to this is to stand: at its slot, or else at the slot beside it.
+fn slot_for(slots: &[Slot], spread: u32) -> usize {
+    let first = slot_of(spread, slots.len());
+    match slots.get(first) {
+        Some(slot) if slot.spread != 0 => slot_beside(first),
+        _ => first,
+    }
+}
+
+// At the slot of each name, or at the slot beside it, where the name stands. Where both are taken, the
+// name takes the place of another.
 fn slots_of(alloc: Global, in_order: &[Name], numbers: &[u32]) -> Result<Vec<Slot>, AllocError> {
     let count = in_order.len().saturating_mul(SLOTS_A_NAME);
-    let nowhere = Slot { rank: 0, number: 0 };
+    let nowhere = Slot {
+        spread: 0,
+        rank: 0,
+        number: 0,
+    };
     let mut slots = Vec::from_elem(alloc, nowhere, count)?;
     for (rank, (name, number)) in in_order.iter().zip(numbers).enumerate() {
-        if let Some(slot) = slots.get_mut(slot_of(*name, count)) {
+        let spread = name.spread();
+        let place = slot_for(slots.as_slice(), spread);
+        if let Some(slot) = slots.get_mut(place) {
             *slot = Slot {
+                spread,
                 rank: u32::try_from(rank).unwrap_or(0),
                 number: *number,
             };
@@ -134,10 +157,15 @@ impl SharedNames {
         self.table.numbers.as_slice()
     }
 
-    // What stands at the slot of a name.
+    // What stands at the slot of a name, or else at the slot beside it.
     fn slot(&self, name: Name) -> Option<Slot> {
         let slots = &self.table.slots;
-        slots.get(slot_of(name, slots.len())).copied()
+        let spread = name.spread();
+        let place = slot_of(spread, slots.len());
+        match slots.get(place) {
+            Some(slot) if slot.spread == spread => Some(*slot),
+            _ => slots.get(slot_beside(place)).copied(),
+        }
     }
 
     /// The place in the name order that a name mostly has. It decides no answer.

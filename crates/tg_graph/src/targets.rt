@@ -81,6 +81,7 @@ impl Targets {
     }
 
     /// Whether a number is that of the name.
+    #[inline(always)]
     pub fn is_at(&self, number: usize, name: Name) -> bool
         ensures { result ≡ true → slice_get (names_of self.now) number ≡ Some name }
     {

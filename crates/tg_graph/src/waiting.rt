@@ -17,6 +17,7 @@ use bitflags::Flags;
 use std::alloc::AllocError;
 
 // Adds an edge to the row: behind the others, if it belongs there.
+#[inline(always)]
 fn put(
     graph: &Graph,
     row: &mut Row,
@@ -39,6 +40,7 @@ fn put(
 }
 
 // Moves the label at a position to the row.
+#[inline(always)]
 fn move_label(
     graph: &Graph,
     row: &mut Row,
@@ -86,6 +88,9 @@ fn move_all(graph: &Graph, row: &mut Row, left: &mut Labels) -> Result<(), Alloc
     ensures { (labels : List Rights) → IsMoving (keys_of graph.now) labels row.old left.old → OnOk result
         (HasMoved (keys_of graph.now) labels row.new) }
 {
+    if left.is_clear() {
+        return Ok(());
+    }
     for place in 0..graph.len() {
         if left.has(place) {
             move_label(graph, row, left, place)?;

@@ -8,3 +8,7 @@ pub returns : goal.returns
 returns c labels m =
     moved-all (keys_of c.args.graph.now) labels c.loop-place.row c.loop-place.left (c.loop-place.invariant.moved labels m)
     (λ k h. c.loop-place.invariant.gone k (omega (arith, h, c.loop-place-test.false, c.len-place-end.ensures.value, length-map c.args.graph.now (λ e. e.0))))
+
+pub returns-then-is_clear : goal.returns-then-is_clear
+returns-then-is_clear c labels m =
+    moved-all (keys_of c.args.graph.now) labels c.args.row.now c.args.left.now m (λ k h. c.is_clear.ensures c.if-is_clear.true k)

@@ -1,13 +1,14 @@
 use Rattle.std.proofs.Common.{◌-◌, ◌≤◌, length}
-use Rattle.tg_graph.specs.Rows.{AreBelow, AreAbove}
-use Rattle.tg_graph.proofs.row.Row.place_by_halves.Given as goal
+use Rattle.tg_graph.specs.Rows.{AreAbove}
+use Rattle.tg_graph.specs.Halves.{LastIsNotAbove}
+use Rattle.tg_graph.proofs.row.Row.count_up_to.Given as goal
 
--- the targets in front of `low` are below y, and those from `high` on above
+-- the target in front of `low` is not above y, and those from `high` on are
 abbrev pub invariant-loop-low : goal.invariant-loop-low
 invariant-loop-low l = record {
   order : l.low ≤ l.high;
   within : l.high ≤ length l.self-inside.edges;
-  below : AreBelow l.self-inside.edges l.y l.low;
+  last : LastIsNotAbove l.self-inside.edges l.y l.low;
   above : AreAbove l.self-inside.edges l.y l.high;
 }
 
