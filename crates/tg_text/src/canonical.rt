@@ -206,16 +206,25 @@ fn append_rows(
     Ok(())
 }
 
+/// The text, and behind it the canonical text of a graph. The error is want of memory; the text is
+/// gone then.
+pub fn write_graph_behind(text: Vec<u8>, graph: &Graph) -> Result<Vec<u8>, AllocError>
+    ensures { IfOk result (λ both. both.items ≡ text.items ++ canonical_text (graph_of graph.now)) }
+{
+    let mut text = text;
+    let alloc = *text.allocator();
+    let names = names_in_order(alloc, graph)?;
+    append_version(&mut text, version_for(graph, &names))?;
+    append_vertices(&mut text, &names)?;
+    append_rows(alloc, &mut text, graph, &names)?;
+    Ok(text)
+}
+
 /// The canonical text of a graph: the line `version 2`, if the graph has more vertices than
 /// `MOST_VERTICES_OF_ONE` or a label with `a` or `d`; its vertices in name order, then its edges in
 /// order of source, then target. The error is want of memory.
 pub fn write_graph(alloc: Global, graph: &Graph) -> Result<Vec<u8>, AllocError>
     ensures { IfOk result (λ text. text.items ≡ canonical_text (graph_of graph.now)) }
 {
-    let names = names_in_order(alloc, graph)?;
-    let mut text = Vec::new(alloc);
-    append_version(&mut text, version_for(graph, &names))?;
-    append_vertices(&mut text, &names)?;
-    append_rows(alloc, &mut text, graph, &names)?;
-    Ok(text)
+    write_graph_behind(Vec::new(alloc), graph)
 }

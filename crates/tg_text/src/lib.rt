@@ -28,7 +28,7 @@ mod words;
 #[cfg(test)]
 mod writing_tests;
 
-pub use canonical::{names_in_order, write_graph};
+pub use canonical::{names_in_order, write_graph, write_graph_behind};
 pub use faults::{TextFault, TextKind};
 pub use graph_text::read_graph;
 pub use limits::{MOST_EVENTS, MOST_LINE_BYTES, MOST_RULES, MOST_VERTICES_OF_ONE};

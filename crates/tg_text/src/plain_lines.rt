@@ -88,8 +88,11 @@ fn three_names(bytes: &[u8]) -> Option<(Name, Name, Name, &[u8], &[u8])>
     Some((first.0, others.0, others.1, others.2, others.3))
 }
 
+// Each kind of rule is cut by itself, so that its names stay whole: where one kind has a name, another has
+// its rights.
+
 // The take that stands behind its keyword.
-#[inline(always)]
+#[inline(never)]
 fn cut_take(bytes: &[u8]) -> Option<(Rule, &[u8], &[u8])>
     ensures line { IfSome result
         (λ found. codes "take" ++ 32 ∷ bytes.now ≡ line_of (words_with found.0 found.1.now) ++ found.2.now) }
@@ -112,7 +115,7 @@ fn cut_take(bytes: &[u8]) -> Option<(Rule, &[u8], &[u8])>
 }
 
 // The grant that stands behind its keyword.
-#[inline(always)]
+#[inline(never)]
 fn cut_grant(bytes: &[u8]) -> Option<(Rule, &[u8], &[u8])>
     ensures line { IfSome result
         (λ found. codes "grant" ++ 32 ∷ bytes.now ≡ line_of (words_with found.0 found.1.now) ++ found.2.now) }
@@ -135,7 +138,7 @@ fn cut_grant(bytes: &[u8]) -> Option<(Rule, &[u8], &[u8])>
 }
 
 // The create that stands behind its keyword.
-#[inline(always)]
+#[inline(never)]
 fn cut_create(bytes: &[u8]) -> Option<(Rule, &[u8], &[u8])>
     ensures line { IfSome result
         (λ found. codes "create" ++ 32 ∷ bytes.now ≡ line_of (words_with found.0 found.1.now) ++ found.2.now) }
@@ -157,7 +160,7 @@ fn cut_create(bytes: &[u8]) -> Option<(Rule, &[u8], &[u8])>
 }
 
 // The remove that stands behind its keyword.
-#[inline(always)]
+#[inline(never)]
 fn cut_remove(bytes: &[u8]) -> Option<(Rule, &[u8], &[u8])>
     ensures line { IfSome result
         (λ found. codes "remove" ++ 32 ∷ bytes.now ≡ line_of (words_with found.0 found.1.now) ++ found.2.now) }

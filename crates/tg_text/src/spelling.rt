@@ -1,5 +1,5 @@
 //! Rules, replies and numbers as text.
-ghost use Rattle.std.specs.Prelude.{◌≡◌, ◌+◌, ◌≤◌, ◌<◌, ◌++◌, ◌∷◌, IfOk, OnOk, OnErr, length, vec_len, vec_capacity};
+ghost use Rattle.std.specs.Prelude.{◌≡◌, ◌+◌, ◌/◌, ◌%◌, ◌≤◌, ◌<◌, ◌++◌, ◌∷◌, [], IfOk, OnOk, OnErr, length, vec_len, vec_capacity};
 ghost use Rattle.std.specs.Fmt.{decimal};
 ghost use Rattle.tg_text.specs.Spelling.{rule_text, reply_text, refusal_words, rights_text, spaced};
 ghost use Rattle.tg_graph.specs.Letters.{letters_among};
@@ -160,17 +160,34 @@ pub fn append_reply(text: &mut Vec<u8>, reply: &Reply) -> Result<(), AllocError>
     Ok(())
 }
 
-// Appends a number in decimal.
+// Appends the digits of a number below 100, of which there may be a zero in front.
+fn put_two_digits(text: &mut Vec<u8>, number: usize)
+    requires below { number < 100 }
+    requires room { vec_len text.old + 2 ≤ vec_capacity text.old }
+    ensures items { text.new.items ≡ text.old.items
+        ++ (48 + number / 10) ∷ (48 + number % 10) ∷ [] }
+    ensures len { vec_len text.new ≡ vec_len text.old + 2 }
+    ensures capacity { vec_capacity text.old ≤ vec_capacity text.new }
+{
+    text.push_reserved(b'0' + (number / 10) as u8);
+    text.push_reserved(b'0' + (number % 10) as u8);
+}
+
+// Appends a number in decimal, two digits at a time.
 fn put_number(text: &mut Vec<u8>, number: usize)
     requires { vec_len text.old + length (decimal number) ≤ vec_capacity text.old }
     ensures items { text.new.items ≡ text.old.items ++ decimal number }
     ensures len { vec_len text.new ≡ vec_len text.old + length (decimal number) }
     ensures capacity { vec_capacity text.old ≤ vec_capacity text.new }
 {
-    if number >= 10 {
-        put_number(text, number / 10);
+    if number < 10 {
+        text.push_reserved(b'0' + number as u8);
+        return;
     }
-    text.push_reserved(b'0' + (number % 10) as u8);
+    if number >= 100 {
+        put_number(text, number / 100);
+    }
+    put_two_digits(text, number % 100);
 }
 
 /// Appends a number in decimal, without leading zeros. It fails only where there is no room and

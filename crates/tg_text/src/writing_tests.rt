@@ -1,8 +1,8 @@
 // What is written, where there is memory enough.
 use crate::test_helpers::{rules, vertices};
 use crate::{
-    append_number, append_reply, append_rule, names_in_order, read_graph, write_graph, write_reply,
-    write_rule,
+    append_number, append_reply, append_rule, names_in_order, read_graph, write_graph,
+    write_graph_behind, write_reply, write_rule,
 };
 use std::alloc::{AllocError, Global};
 use std::process::Abort;
@@ -125,6 +125,16 @@ fn canonical_texts(rt: HostRuntime) -> Result<(), Fail> {
     Ok(())
 }
 
+#[test]
+fn a_graph_behind_a_text(rt: HostRuntime) -> Result<(), Fail> {
+    let graph = read_graph(rt.alloc(), b"vertex b\nvertex a\nedge b a gt\n")?;
+    let text = Vec::from_slice(rt.alloc(), b"1 done\ngraph\n")?;
+    let both = write_graph_behind(text, &graph)?;
+    let wanted: &[u8] = b"1 done\ngraph\nvertex a\nvertex b\nedge b a tg\n";
+    assert!(rt; both.as_slice() == wanted);
+    Ok(())
+}
+
 // That a graph of so many vertices is written with this front, and read as many again.
 fn many(rt: &impl Abort, alloc: Global, count: usize, front: &[u8]) -> Result<(), Fail> {
     let text = vertices(alloc, "version 2\n", count)?;
@@ -168,9 +178,12 @@ fn an_empty_graph(rt: HostRuntime) -> Result<(), Fail> {
 #[test]
 fn numbers(rt: HostRuntime) -> Result<(), Fail> {
     let mut text = Vec::new(rt.alloc());
-    append_number(&mut text, 0)?;
-    append_number(&mut text, 4096)?;
+    for number in [0, 7, 10, 99, 100, 1005, 4096] {
+        append_number(&mut text, number)?;
+        text.push(b' ')?;
+    }
     append_number(&mut text, usize::MAX)?;
-    assert!(rt; text.as_slice() == b"0409618446744073709551615".as_slice());
+    let wanted: &[u8] = b"0 7 10 99 100 1005 4096 18446744073709551615";
+    assert!(rt; text.as_slice() == wanted);
     Ok(())
 }
