@@ -22,7 +22,7 @@ use std::thread;
 use std::thread::Threads;
 use tg_graph::Graph;
 use tg_store::{Seat, Store, StoreFault, StoreMeetFault};
-use tg_text::{Script, ScriptLine, write_graph};
+use tg_text::{Script, ScriptLine, write_graph_behind};
 
 /// What the thread of a seat brings back.
 #[derive(Drop)]
@@ -159,14 +159,16 @@ fn meet_all(store: &Store, seat: &mut Seat, others: &[Seat]) -> Result<(), Store
 }
 
 // The end of a report: a graph.
-fn end_in_graph(alloc: Global, text: Vec<u8>, graph: &Graph) -> Result<Report, AllocError>
+fn end_in_graph(text: Vec<u8>, graph: &Graph) -> Result<Report, AllocError>
     ensures { IfOk result
         (λ report. report_text report ≡ graph_report text.items (graph_of graph.now)) }
 {
     let mut bytes = text;
     bytes.extend_from_slice(b"graph\n")?;
-    bytes.extend_from_slice(&write_graph(alloc, graph)?)?;
-    Ok(Report { bytes, status: 0 })
+    Ok(Report {
+        bytes: write_graph_behind(bytes, graph)?,
+        status: 0,
+    })
 }
 
 // The end of a report where the last meeting failed: the line of a record that the seat did not
@@ -183,12 +185,7 @@ fn end_in_fault(text: Vec<u8>, fault: StoreMeetFault) -> Result<Report, AllocErr
 }
 
 // Has the first seat meet the others, and ends the report.
-fn end_race(
-    alloc: Global,
-    store: &Store,
-    text: Vec<u8>,
-    seats: Vec<Seat>,
-) -> Result<Report, AllocError>
+fn end_race(store: &Store, text: Vec<u8>, seats: Vec<Seat>) -> Result<Report, AllocError>
     requires some { 0 < length seats.items }
     requires seats { All (IsOf store.now) seats.items }
     ensures { IfOk result (λ report. EndsRace text.items seats.items (report_text report)) }
@@ -197,7 +194,7 @@ fn end_race(
     let mut first = others.remove(0);
     match meet_all(store, &mut first, &others) {
         Ok(()) => {
-            let report = end_in_graph(alloc, text, first.graph())?;
+            let report = end_in_graph(text, first.graph())?;
             Ok(report)
         }
         Err(fault) => {
@@ -244,7 +241,7 @@ fn raced<R: Threads + Sync>(
     let (store, seats) = store_for(alloc, graph, script)?;
     let results = play_all(rt, alloc, &store, seats, &script.lines)?;
     let (text, seats) = gather(alloc, results)?;
-    let report = end_race(alloc, &store, text, seats)?;
+    let report = end_race(&store, text, seats)?;
     Ok(report)
 }
 

@@ -16,7 +16,7 @@ use crate::table_lines::table;
 use crate::words::Command;
 use std::alloc::{AllocError, Global};
 use std::thread::Threads;
-use tg_text::write_graph;
+use tg_text::{write_graph, write_graph_behind};
 
 fn check(alloc: Global, first: &[u8]) -> Result<Report, Halt>
     ensures { Brings report_text result (check_report first.now) }
@@ -44,8 +44,10 @@ fn apply(alloc: Global, first: &[u8], second: &[u8]) -> Result<Report, Halt>
     let mut bytes = Vec::new(alloc);
     let status = play(&mut bytes, &mut graph, &rules)?;
     bytes.extend_from_slice(b"graph\n")?;
-    bytes.extend_from_slice(&write_graph(alloc, &graph)?)?;
-    Ok(Report { bytes, status })
+    Ok(Report {
+        bytes: write_graph_behind(bytes, &graph)?,
+        status,
+    })
 }
 
 fn case(alloc: Global, input: &[u8]) -> Result<Report, Halt>

@@ -14,7 +14,7 @@ use crate::outcome_lines::append_line;
 use std::alloc::{AllocError, Global};
 use tg_graph::Graph;
 use tg_store::{Hall, StoreFault};
-use tg_text::{Script, ScriptLine, write_graph};
+use tg_text::{Script, ScriptLine, write_graph_behind};
 
 // Carries out an event, and appends the line of its outcome.
 fn play_event(text: &mut Vec<u8>, hall: &mut Hall, event: &ScriptLine) -> Result<(), AllocError>
@@ -60,8 +60,10 @@ fn played(alloc: Global, graph: &Graph, script: &Script) -> Result<Report, Alloc
     let mut hall = hall_for(alloc, graph, script)?;
     let mut bytes = play_all(alloc, &mut hall, &script.lines)?;
     bytes.extend_from_slice(b"graph\n")?;
-    bytes.extend_from_slice(&write_graph(alloc, &hall.last()?)?)?;
-    Ok(Report { bytes, status: 0 })
+    Ok(Report {
+        bytes: write_graph_behind(bytes, &hall.last()?)?,
+        status: 0,
+    })
 }
 
 /// The report of a script: the outcomes of its events, and the graph that all records lead to.

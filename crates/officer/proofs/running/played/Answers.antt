@@ -15,7 +15,7 @@ returns c =
     let plays = subst (λ es. Plays start es outcomes end) c.deref.ensures.value c.in_ok-bytes.ensures in
     let opening = plays_keep start end events outcomes plays ∙ ap (λ w. w.opening) c.in_ok-hall.ensures in
     let graph = c.in_ok-last.ensures.graph ∙ ap (λ rows. replay (graph_of rows) end.history) opening in
-    let text = c.deref-2.ensures.value ∙ c.in_ok-write_graph.ensures ∙ ap canonical_text graph in
+    let text = ap canonical_text graph in
     record {
       opening = c.args.graph.now;
       end = end;
@@ -23,5 +23,5 @@ returns c =
       opens = refl;
       plays = subst (λ w. Plays w events outcomes end) c.in_ok-hall.ensures plays;
       legal = subst (λ rows. IsLegal (graph_of rows) end.history) opening c.in_ok-last.ensures.legal;
-      says = ap (λ bytes. record { bytes = bytes; status = 0 }) (c.in_ok-extend_from_slice-2.ensures.items ∙ (λ i. c.in_ok-extend_from_slice.ensures.items i ++ text i));
+      says = ap (λ bytes. record { bytes = bytes; status = 0 }) (c.in_ok-write_graph_behind.ensures ∙ (λ i. c.in_ok-extend_from_slice.ensures.items i ++ text i));
     }
