@@ -1,8 +1,9 @@
 # make demo       proves and builds the program, and shows it on the file service of examples/
 # make examples   compares what each example prints with what is stored beside it
 # make pictures   draws the examples; wants Graphviz
-# make test       the merge gate: every proof from nothing, the wrong bodies, the tests, the program;
-#                 some two hours on four slow processors
+# make test       the merge gate: every proof, the wrong bodies, the tests, the program; some two hours
+#                 on four slow processors from nothing. What it passed is kept on the machine, and is
+#                 not proved again
 # make refusals   the memory tests with each request for memory refused in turn: seconds, once the
 #                 gate or rt test has built the tests
 # make man        the manual page
