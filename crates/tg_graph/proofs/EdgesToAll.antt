@@ -1,5 +1,5 @@
 -- Names with a label for each.
-use Rattle.std.proofs.Common.{◌≡◌, ℕ, zero, suc, ◌<◌, ◌+◌, List, [], ◌∷◌, ◌++◌, length, get_or, set, take, sym, ap, ◌∙◌, arith, refl}
+use Rattle.std.proofs.Common.{◌≡◌, ℕ, zero, suc, ◌<◌, ◌≤◌, ◌+◌, List, [], ◌∷◌, ◌++◌, length, get_or, set, take, sym, ap, ◌∙◌, arith, refl}
 use Rattle.std.specs.List.{zip}
 use Rattle.std.proofs.lemmas.List.{take_more}
 use Rattle.std.proofs.lemmas.Slice.Zip.{length-zip, get_or-zip}
@@ -9,7 +9,7 @@ module _ {K X : Type 0} where
   zip-nil [] vs e = refl
   zip-nil (k ∷ ks) vs e = ap (zip (k ∷ ks)) e
 
-  zip-push : (ks : List K) (vs : List X) (v : X) (d : K) → length vs < length ks → zip ks (vs ++ v ∷ []) ≡ zip ks vs ++ (get_or ks (length vs) d, v) ∷ []
+  pub zip-push : (ks : List K) (vs : List X) (v : X) (d : K) → length vs < length ks → zip ks (vs ++ v ∷ []) ≡ zip ks vs ++ (get_or ks (length vs) d, v) ∷ []
   zip-push [] vs v d h = absurd (omega arith)
   zip-push (k ∷ ks) [] v d h = ap (λ es. (k, v) ∷ es) (zip-nil ks [] refl)
   zip-push (k ∷ ks) (x ∷ vs) v d h = ap (λ es. (k, x) ∷ es) (zip-push ks vs v d (omega arith))
@@ -28,7 +28,7 @@ module _ {K X : Type 0} where
       ∙ sym (take_more es i d in_list)
 
 -- the edges that names and their labels make
-module _ {K X : Type 0} (ks : List K) (vs : List X) (es : List (K × X)) (view : zip ks vs ≡ es) (long : length ks ≡ length vs) where
+module _ {K X : Type 0} (ks : List K) (vs : List X) (es : List (K × X)) (view : zip ks vs ≡ es) (long : length vs ≤ length ks) where
   pub labelled-length : length vs ≡ length es
   labelled-length = omega (arith, length-zip ks vs, ap length view)
 

@@ -61,6 +61,15 @@ impl EdgeList {
         }
     }
 
+    /// No edges so far, where there is to be one to each of the shared names, in name order.
+    pub fn to_all(alloc: Global, names: &SharedNames) -> Result<EdgeList, AllocError>
+        ensures { IfOk result (λ list. list ≡ []) }
+    {
+        Ok(EdgeList {
+            form: Form::ToAll(EdgesToAll::with_room(alloc, names)?),
+        })
+    }
+
     /// How many edges there are.
     pub fn len(&self) -> usize
         ensures { result ≡ length self.now }
@@ -178,8 +187,8 @@ impl EdgeList {
         }
     }
 
-    /// Puts an edge behind the others where the number is that of its target, and says whether it
-    /// was put there.
+    /// Puts an edge behind the others where it is found at once that it may stand there: the number is
+    /// that of its target, or the target is the next of all. It says whether it was put there.
     #[inline(always)]
     pub fn push(&mut self, target: Name, label: Rights, number: usize) -> Result<bool, AllocError>
         ensures pushed { IfOk result
@@ -188,7 +197,7 @@ impl EdgeList {
     {
         match &mut self.form {
             Form::Listed(edges) => edges.push(target, label, number),
-            Form::ToAll(_) => Ok(false),
+            Form::ToAll(edges) => edges.push(target, label),
         }
     }
 

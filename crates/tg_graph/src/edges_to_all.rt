@@ -1,5 +1,5 @@
 //! The edges of one row that has an edge to each of the shared names: a byte an edge.
-ghost use Rattle.std.specs.Prelude.{◌≡◌, ◌<◌, ℕ, List, IfOk, IfSome, length, slice_get, slice_index_or, slice_set, zip};
+ghost use Rattle.std.specs.Prelude.{◌≡◌, ◌<◌, ℕ, List, [], ◌∷◌, ◌++◌, if◌then◌else◌, IfOk, IfSome, OnErr, length, slice_get, slice_index_or, slice_set, zip};
 ghost use Rattle.tg_graph.specs.declared.right_sets.Rights.{Rights};
 
 use crate::listed_edges::ListedEdges;
@@ -10,18 +10,19 @@ use std::alloc::{AllocError, Global};
 use std::marker::Model;
 use std::sync::Arc;
 
-/// Edges to each of the shared names, in name order.
+/// Edges to each of the shared names, in name order. While they are put in, there are edges to the
+/// first of these names alone.
 #[derive(Drop)]
 pub struct EdgesToAll {
     shared: SharedNames,
     // The shared names in name order.
     names: Arc<Vec<Name>>,
-    // The label of the edge to each of them, in the same order.
+    // The labels of the edges to the first of them, in the same order.
     labels: Vec<Rights>,
 }
 
 impl Model for EdgesToAll {
-    ghost use Rattle.std.specs.Prelude.{◌≡◌, List, ℕ, length, zip};
+    ghost use Rattle.std.specs.Prelude.{◌≤◌, List, ℕ, length, zip};
     ghost use Rattle.std.specs.Arc.{arc_value};
     ghost use Rattle.tg_graph.specs.declared.right_sets.Rights.{Rights};
 
@@ -29,7 +30,7 @@ impl Model for EdgesToAll {
 
     ghost view = { λ e. zip (arc_value e.names).items e.labels.items };
 
-    ghost invariant = { λ e. length (arc_value e.names).items ≡ length e.labels.items };
+    ghost invariant = { λ e. length e.labels.items ≤ length (arc_value e.names).items };
 }
 
 impl Clone for EdgesToAll {
@@ -69,6 +70,19 @@ fn labels_to_all(list: &ListedEdges, names: &[Name]) -> Option<Vec<Rights>>
 }
 
 impl EdgesToAll {
+    /// No edges so far, with room for one to each of the shared names.
+    pub fn with_room(alloc: Global, shared: &SharedNames) -> Result<EdgesToAll, AllocError>
+        ensures { IfOk result (λ edges. edges ≡ []) }
+    {
+        let names = Arc::try_clone(shared.in_order())?;
+        let labels = Vec::with_capacity(alloc, names.len())?;
+        Ok(EdgesToAll {
+            shared: shared.clone()?,
+            names,
+            labels,
+        })
+    }
+
     /// The same edges, if there is one to each of the shared names. There are none too where memory
     /// is refused.
     pub fn of(list: &ListedEdges) -> Option<EdgesToAll>
@@ -129,6 +143,23 @@ impl EdgesToAll {
         ensures { (d : List ℕ × Rights) → self.new ≡ slice_set self.old place ((slice_index_or self.old place d).0, label) }
     {
         self.labels[place] = label;
+    }
+
+    /// Puts an edge behind the others where its target is the next of the names, and says whether it
+    /// was put there.
+    #[inline(always)]
+    pub fn push(&mut self, target: Name, label: Rights) -> Result<bool, AllocError>
+        ensures pushed { IfOk result
+            (λ pushed. self.new ≡ (if pushed then self.old ++ (target, label) ∷ [] else self.old)) }
+        ensures err { OnErr result (self.new ≡ self.old) }
+    {
+        match self.names.get(self.labels.len()) {
+            Some(name) if *name == target => {
+                self.labels.push(label)?;
+                Ok(true)
+            }
+            _ => Ok(false),
+        }
     }
 
     /// The same edges, whose targets have numbers among these names where they had them among

@@ -1,5 +1,5 @@
 //! Labels by position.
-ghost use Rattle.std.specs.Prelude.{◌≡◌, ◌<◌, ℕ, [], IfOk, get_or, length, not, true, replicate, slice_set};
+ghost use Rattle.std.specs.Prelude.{◌≡◌, ◌<◌, ℕ, [], IfOk, get_or, length, not, true, false, replicate, slice_set};
 ghost use Rattle.std.specs.List.{AllByRecursion};
 ghost use Rattle.tg_graph.specs.Sets.{IsNamed, is_empty_set, nothing};
 
@@ -87,6 +87,17 @@ impl Labels {
             found |= !self.labels[i].is_empty();
         }
         !found
+    }
+
+    /// Whether each label has a right. The loop goes on behind one that has none, as above.
+    pub fn is_full(&self) -> bool
+        ensures { result ≡ true → (k : ℕ) → k < length self.now → is_empty_set (get_or self.now k nothing) ≡ false }
+    {
+        let mut missing = false;
+        for i in 0..self.labels.len() {
+            missing |= self.labels[i].is_empty();
+        }
+        !missing
     }
 
     /// The label at a position.

@@ -233,16 +233,25 @@ impl Graph {
         }
     }
 
-    /// The position of a vertex, or `None` for a name that is no vertex.
-    pub fn position(&self, name: Name) -> Option<usize>
+    // The position of a vertex whose number is not the likely one.
+    #[inline(never)]
+    fn position_by_order(&self, name: Name) -> Option<usize>
         ensures { result ≡ position (bytes_eq name) (keys_of self.now) }
     {
-        if let Some(number) = self.confirmed(self.likely_number(name), name) {
-            return Some(number);
-        }
         match self.confirmed(self.shared_number(name), name) {
             Some(number) => Some(number),
             None => self.rows.get_index_of(&name),
+        }
+    }
+
+    /// The position of a vertex, or `None` for a name that is no vertex.
+    #[inline(always)]
+    pub fn position(&self, name: Name) -> Option<usize>
+        ensures { result ≡ position (bytes_eq name) (keys_of self.now) }
+    {
+        match self.confirmed(self.likely_number(name), name) {
+            Some(number) => Some(number),
+            None => self.position_by_order(name),
         }
     }
 

@@ -63,6 +63,18 @@ impl Row {
         }
     }
 
+    /// No edges so far, where there is to be one to each of the shared names, in name order. It takes
+    /// less memory than a row of any others.
+    pub fn to_all(alloc: Global, names: &SharedNames) -> Result<Row, AllocError>
+        ensures { IfOk result (λ row. row ≡ []) }
+    {
+        Ok(Row {
+            edges: EdgeList::to_all(alloc, names)?,
+            next: 0,
+            in_turn: true,
+        })
+    }
+
     /// The same edges, which share these names with others.
     pub fn moved_to(&self, alloc: Global, names: Option<&SharedNames>) -> Result<Row, AllocError>
         ensures { IfOk result (λ row. row ≡ self.now) }
@@ -72,13 +84,6 @@ impl Row {
             next: self.next,
             in_turn: self.in_turn,
         })
-    }
-
-    /// Takes less memory where there is an edge to each of the shared names and to no other.
-    pub fn shorten(&mut self)
-        ensures { self.new ≡ self.old }
-    {
-        self.edges.shorten();
     }
 
     /// How many edges there are.
@@ -250,8 +255,8 @@ impl Row {
         Ok(())
     }
 
-    /// Adds the edge to y behind the others where the number is that of y and no target is above y,
-    /// and says whether it was added.
+    /// Adds the edge to y behind the others where no target is above y, and the number is that of y or
+    /// y is the next of all. It says whether it was added.
     #[inline(always)]
     pub fn push(&mut self, y: Name, label: Rights, number: usize) -> Result<bool, AllocError>
         requires { IsLabel label }

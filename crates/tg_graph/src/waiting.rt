@@ -99,16 +99,27 @@ fn move_all(graph: &Graph, row: &mut Row, left: &mut Labels) -> Result<(), Alloc
     Ok(())
 }
 
+// No edges so far, in the form that suits the row with these labels.
+fn row_for(graph: &Graph, labels: &Labels) -> Result<Row, AllocError>
+    ensures { IfOk result (λ row. row ≡ []) }
+{
+    match &graph.names {
+        Some(names) if names.len() == labels.len() && labels.is_full() => {
+            Row::to_all(graph.alloc, names)
+        }
+        _ => Ok(Row::new(graph.alloc)),
+    }
+}
+
 // The row with the labels.
 fn row_of(graph: &Graph, labels: &Labels) -> Result<Row, AllocError>
     ensures moved { IfOk result (HasMoved (keys_of graph.now) labels.now) }
     ensures row { IfOk result IsRow }
 {
     let mut left = labels.clone()?;
-    let mut row = Row::new(graph.alloc);
+    let mut row = row_for(graph, labels)?;
     move_in_order(graph, &mut row, &mut left)?;
     move_all(graph, &mut row, &mut left)?;
-    row.shorten();
     // It is a row: this `len` says so.
     let _ = row.len();
     Ok(row)
