@@ -26,3 +26,4 @@ pub mod RulesBack
 pub mod SmallGraphs
 pub mod LikelyLines
 pub mod PlainRules
+pub mod RuleSinks

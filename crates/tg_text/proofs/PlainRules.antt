@@ -1,5 +1,5 @@
 -- The line of a rule that is written with single spaces, at the front of a text.
-use Rattle.std.proofs.Common.{◌≡◌, ℕ, ◌≤◌, false, nat_le, if◌then◌else◌, List, [], ◌∷◌, ◌++◌, length, codes, Some, Ok, Err, refl, ap, ◌∙◌, arith}
+use Rattle.std.proofs.Common.{◌≡◌, ℕ, ◌+◌, ◌≤◌, false, nat_le, if◌then◌else◌, List, [], ◌∷◌, ◌++◌, length, codes, Some, Ok, Err, refl, ap, ◌∙◌, arith}
 use Rattle.std.specs.List.{AllByRecursion}
 use Rattle.std.proofs.lemmas.List.{length-append}
 use Rattle.tg_graph.specs.declared.rules.Rule.{Rule}
@@ -12,8 +12,8 @@ use Rattle.tg_text.specs.declared.rule_text.RuleLine.{RuleLine}
 use Rattle.tg_text.specs.Canonical.{line_of}
 use Rattle.tg_text.specs.Limits.{most_line_bytes, most_rules}
 use Rattle.tg_text.specs.Lines.{lines_of, is_skipped}
-use Rattle.tg_text.specs.Reading.{◌>>=◌, MakesFirst, with_item}
-use Rattle.tg_text.specs.RuleText.{words_with, rule_line, rule_item}
+use Rattle.tg_text.specs.Reading.{◌>>=◌, MakesFirst}
+use Rattle.tg_text.specs.RuleText.{words_with, rule_line, counted_item}
 use Rattle.tg_text.specs.Spelling.{spaced}
 use Rattle.tg_text.specs.Words.{Word, value_or}
 use Rattle.tg_text.proofs.PlainWords.{IsPlainWord, word_from_test, name_word, lines-spaced, line-is}
@@ -40,12 +40,12 @@ not_skipped (Grant x y z s) letters = refl
 not_skipped (Create x m s) letters = refl
 not_skipped (Remove x y s) letters = refl
 
-module _ (n : ℕ) (rules : List RuleLine) (rule : Rule) (letters : Word) (i : IsRule rule) (e : set_of_letters letters ≡ Some (rights_of rule)) (few : length letters ≤ 7) (room : nat_le most_rules (length rules) ≡ false) where
+module _ {A : Type 0} (with_rule : A → RuleLine → A) (n : ℕ) (made : A) (count : ℕ) (rule : Rule) (letters : Word) (i : IsRule rule) (e : set_of_letters letters ≡ Some (rights_of rule)) (few : length letters ≤ 7) (room : nat_le most_rules count ≡ false) where
   abbrev words : List Word
   words = words_with rule letters
 
-  abbrev more : List RuleLine
-  more = rules ++ record { line = n; rule = rule } ∷ []
+  abbrev more : A × ℕ
+  more = (with_rule made (record { line = n; rule = rule }), count + 1)
 
   plain_words : AllByRecursion IsPlainWord words
   plain_words = plain-words rule letters i (set_word letters (rights_of rule) e)
@@ -54,14 +54,16 @@ module _ (n : ℕ) (rules : List RuleLine) (rule : Rule) (letters : Word) (i : I
   unfolding rule_line
   line-made = ap (λ r. r >>= λ rule. Ok (record { line = n; rule = rule })) (words_with-read rule letters i (ap (value_or BadRights) e))
 
-  item-made : rule_item n rules words ≡ Ok more
-  unfolding rule_item
-  item-made = ap (with_item most_rules rules) line-made ∙ ap (λ b. if b then Err TooMany else Ok more) room
+  item-made : counted_item with_rule n (made, count) words ≡ Ok more
+  unfolding counted_item
+  item-made =
+      ap (λ r. r >>= λ one. if nat_le most_rules count then Err TooMany else Ok (with_rule made one, count + 1)) line-made
+      ∙ ap (λ b. if b then Err TooMany else Ok more) room
 
-  pub rule_first : (text rest : List ℕ) → text ≡ line_of words ++ rest → MakesFirst (rule_item n) rules text more rest
+  pub rule_first : (text rest : List ℕ) → text ≡ line_of words ++ rest → MakesFirst (counted_item with_rule n) (made, count) text more rest
   rule_first text rest t = record {
     line = spaced words;
     cut = ap lines_of t ∙ lines-spaced words rest plain_words;
     shorter = omega (arith, ap length t, length-append (line_of words) rest, length-append (spaced words) (10 ∷ []));
-    made = line-is (rule_item n) rules words plain_words (short rule letters i few) (not_skipped rule letters) ∙ item-made;
+    made = line-is (counted_item with_rule n) (made, count) words plain_words (short rule letters i few) (not_skipped rule letters) ∙ item-made;
   }

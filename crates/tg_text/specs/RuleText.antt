@@ -1,5 +1,6 @@
 -- The text of rules.
-use Rattle.std.specs.Prelude.{All, ℕ, nat_lt, List, [], ◌∷◌, length, codes, Result, Ok, Err, if◌then◌else◌}
+use Rattle.std.specs.Prelude.{All, ℕ, ◌+◌, nat_lt, nat_le, List, [], ◌∷◌, length, codes, Result, Ok, Err, if◌then◌else◌}
+use Rattle.std.specs.List.{fold}
 use Rattle.tg_graph.specs.declared.right_sets.Rights.{Rights}
 use Rattle.tg_graph.specs.declared.rules.Rule.{Rule}
 use Rattle.tg_graph.specs.declared.rules.Rule.TheVariants.{Take, Grant, Create, Remove}
@@ -7,7 +8,7 @@ use Rattle.tg_graph.specs.Sets.{IsNamed}
 use Rattle.tg_graph.specs.Rules.{rights_of}
 use Rattle.tg_graph.specs.Graphs.{Name}
 use Rattle.tg_text.specs.declared.faults.TextKind.{TextKind}
-use Rattle.tg_text.specs.declared.faults.TextKind.TheVariants.{LineTooLong, BadWord}
+use Rattle.tg_text.specs.declared.faults.TextKind.TheVariants.{LineTooLong, BadWord, TooMany}
 use Rattle.tg_text.specs.declared.rule_text.RuleLine.{RuleLine}
 use Rattle.tg_text.specs.Lines.{lines_of, words_of}
 use Rattle.tg_text.specs.Reading.{◌>>=◌, after_lines, with_item}
@@ -65,6 +66,14 @@ rule_item n rules words = with_item most_rules rules (rule_line n words)
 -- the rules of a text, or the first faulty line and what is wrong with it
 unfoldable pub rules_text : List ℕ → Result (List RuleLine) (ℕ × TextKind)
 rules_text bytes = after_lines rule_item 1 [] (lines_of bytes)
+
+-- one more rule, of the line with this number, for what the rules so far made, and how many they were
+unfoldable pub counted_item : {A : Type 0} → (A → RuleLine → A) → ℕ → A × ℕ → List Word → Result (A × ℕ) TextKind
+counted_item with_rule n made words = rule_line n words >>= λ rule. if nat_le most_rules made.1 then Err TooMany else Ok (with_rule made.0 rule, made.1 + 1)
+
+-- what the rules of a text make in turn, or the first faulty line and what is wrong with it
+abbrev pub rules_make : {A : Type 0} → (A → RuleLine → A) → A → List ℕ → Result A (ℕ × TextKind)
+rules_make with_rule start bytes = rules_text bytes >>= λ rules. Ok (fold with_rule start rules)
 
 -- no set of rights has an unnamed bit
 abbrev pub AreNamedLines : List RuleLine → Type 0

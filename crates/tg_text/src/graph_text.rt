@@ -73,7 +73,7 @@ fn add_edge_line(
     let (source, target, letters) = three_words(words)?;
     let x = name_at(source)?;
     let y = name_at(target)?;
-    last.go_on(x);
+    last.go_on(graph, x, y);
     let rights = edge_rights_at(version, letters)?;
     add_edge(graph, x, y, rights)?;
     Ok(())

@@ -33,7 +33,7 @@ pub use faults::{TextFault, TextKind};
 pub use graph_text::read_graph;
 pub use limits::{MOST_EVENTS, MOST_LINE_BYTES, MOST_RULES, MOST_VERTICES_OF_ONE};
 pub use lines::{cut_line, cut_word};
-pub use rule_text::{RuleLine, read_rule, read_rules};
+pub use rule_text::{RuleLine, RuleSink, read_rule, read_rules, read_rules_into};
 pub use script_text::{Script, ScriptLine, read_script};
 pub use spelling::{
     LONGEST_NUMBER, LONGEST_REPLY, LONGEST_RULE, append_number, append_reply, append_rule,

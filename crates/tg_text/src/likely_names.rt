@@ -35,8 +35,10 @@ fn behind_name<'a>(bytes: &'a [u8], name: &Name) -> Option<&'a [u8]>
 #[derive(Clone, Copy)]
 pub(crate) struct LastSource {
     name: Option<Name>,
-    // Whether each target so far that had this source stood where it was likely to.
+    // Whether the next line is compared with the likely one.
     in_turn: bool,
+    // Whether a line was the likely one since one was not.
+    was_likely: bool,
 }
 
 impl LastSource {
@@ -44,13 +46,21 @@ impl LastSource {
     pub(crate) fn new() -> LastSource {
         LastSource {
             name: None,
-            in_turn: true,
+            in_turn: false,
+            was_likely: false,
         }
     }
 
-    /// Goes on to a line with this source, which was not the likely one.
-    pub(crate) fn go_on(&mut self, source: Name) {
-        self.in_turn = self.name != Some(source);
+    /// Goes on to a line with this source and target, which was not the likely one. Lines are compared
+    /// with the likely one from the first on whose source came before and whose target is the next,
+    /// until one of them differs with no likely one before it.
+    pub(crate) fn go_on(&mut self, graph: &GraphBuilder, source: Name, target: Name) {
+        self.in_turn = if self.name == Some(source) {
+            graph.next_target() == Some(target)
+        } else {
+            self.was_likely
+        };
+        self.was_likely = false;
         self.name = Some(source);
     }
 
@@ -93,12 +103,13 @@ impl LastSource {
     {
         let bytes = behind_edge(text)?;
         if let Some(found) = self.likely_names(graph, bytes) {
+            self.was_likely = true;
             return Some(found);
         }
         let Some(found) = two_names(bytes) else {
             return None;
         };
-        self.go_on(found.0);
+        self.go_on(graph, found.0, found.1);
         Some(found)
     }
 }

@@ -1,12 +1,11 @@
 //! The text of rules.
-ghost use Rattle.std.specs.Prelude.{◌≡◌, ◌∷◌, List, IfOk, OnOk, MatchOption, length, nat_le};
+ghost use Rattle.std.specs.Prelude.{◌≡◌, ◌∷◌, ℕ, nat_le, IfOk, OnOk, MatchOption};
 ghost use Rattle.tg_graph.specs.Sets.{IsNamed};
 ghost use Rattle.tg_graph.specs.Rules.{rights_of};
-ghost use Rattle.tg_text.specs.declared.rule_text.RuleLine.{RuleLine};
 ghost use Rattle.tg_text.specs.Limits.{most_rules};
 ghost use Rattle.tg_text.specs.Lines.{words_of};
 ghost use Rattle.tg_text.specs.Reading.{Makes, MakesFirst, Reads};
-ghost use Rattle.tg_text.specs.RuleText.{two_names, three_names, rule_of_words, rule_of_line, rule_item, rules_text, AreNamedLines};
+ghost use Rattle.tg_text.specs.RuleText.{two_names, three_names, rule_of_words, rule_of_line, counted_item, rules_make, rules_text, AreNamedLines};
 
 use crate::faults::{LineFault, TextFault, TextKind};
 use crate::limits::{MOST_LINE_BYTES, MOST_RULES};
@@ -14,7 +13,7 @@ use crate::lines::cut_word;
 use crate::plain_lines::cut_rule;
 use crate::reading::{Items, read_lines};
 use crate::words::{four_words, name_at, rights_at, three_words};
-use std::alloc::Global;
+use std::alloc::{AllocError, Global};
 use tg_graph::{Name, Rights, Rule};
 
 /// A rule of a text.
@@ -95,63 +94,129 @@ pub fn read_rule(line: &[u8]) -> Result<Rule, TextKind>
     rule_of_words(first, rest)
 }
 
-// Whether no further rule may come.
-fn is_full(rules: &[RuleLine]) -> bool
-    ensures { result ≡ nat_le most_rules (length rules.now) }
-{
-    rules.len() >= MOST_RULES
+/// What is given the rules of a text in turn, as they are read.
+pub trait RuleSink {
+    ghost use Rattle.std.specs.Prelude.{◌≡◌, OnOk, OnErr};
+    ghost use Rattle.tg_graph.specs.Sets.{IsNamed};
+    ghost use Rattle.tg_graph.specs.Rules.{rights_of};
+    ghost use Rattle.tg_text.specs.declared.rule_text.RuleLine.{RuleLine};
+
+    // What the rules so far have made, as the definitions have it.
+    ghost Made: { Type 0 };
+
+    ghost made: { Self → Made };
+
+    // What one more rule makes of it.
+    ghost with_rule: { Made → RuleLine → Made };
+
+    // What holds of all that is made.
+    ghost IsSound: { Self → Type 0 };
+
+    /// Takes the next rule. The error is want of memory, and the rule is not taken then.
+    fn put(&mut self, rule: RuleLine) -> Result<(), AllocError>
+        requires sound { IsSound self.old }
+        requires named { IsNamed (rights_of rule.rule) }
+        ensures made { OnOk result (made self.new ≡ with_rule (made self.old) rule) }
+        ensures kept { OnErr result (made self.new ≡ made self.old) }
+        ensures sound { IsSound self.new };
+}
+
+impl RuleSink for Vec<RuleLine> {
+    ghost use Rattle.std.specs.Prelude.{List, [], ◌∷◌, ◌++◌};
+    ghost use Rattle.tg_text.specs.declared.rule_text.RuleLine.{RuleLine};
+    ghost use Rattle.tg_text.specs.RuleText.{AreNamedLines};
+
+    ghost Made = { List RuleLine };
+
+    ghost made = { λ rules. rules.items };
+
+    ghost with_rule = { λ rules rule. rules ++ rule ∷ [] };
+
+    ghost IsSound = { λ rules. AreNamedLines rules.items };
+
+    fn put(&mut self, rule: RuleLine) -> Result<(), AllocError> {
+        let RuleLine { line, rule } = rule;
+        self.push(RuleLine { line, rule })?;
+        Ok(())
+    }
+}
+
+// A sink, and how many rules it was given.
+#[derive(Drop)]
+struct Counted<S> {
+    sink: S,
+    count: usize,
+}
+
+impl<S> Counted<S> {
+    // Whether no further rule may come.
+    fn is_full(&self) -> bool
+        ensures { result ≡ nat_le most_rules self.now.count }
+    {
+        self.count >= MOST_RULES
+    }
 }
 
 // Adds the rule of a line that is not skipped.
-#[tactic(auto, unfolding(crate::specs::RuleText::rule_line, crate::specs::RuleText::rule_item))]
-fn add_rule(
-    rules: &mut Vec<RuleLine>,
+#[tactic(auto, unfolding(crate::specs::RuleText::rule_line, crate::specs::RuleText::counted_item))]
+fn add_rule<S: RuleSink>(
+    rules: &mut Counted<S>,
     line: usize,
     first: &[u8],
     rest: &[u8],
 ) -> Result<(), LineFault>
-    requires { AreNamedLines rules.old.items }
-    ensures made { Makes (rule_item line rules.old.items (first.now ∷ words_of rest.now)) result
-        rules.new.items }
-    ensures named { OnOk result (AreNamedLines rules.new.items) }
+    requires { S.IsSound rules.old.sink }
+    ensures made { Makes (counted_item S.with_rule line (S.made rules.old.sink, rules.old.count) (first.now ∷ words_of rest.now))
+        result (S.made rules.new.sink, rules.new.count) }
+    ensures sound { OnOk result (S.IsSound rules.new.sink) }
 {
     let rule = rule_of_words(first, rest)?;
-    if is_full(rules.as_slice()) {
+    if rules.is_full() {
         return Err(LineFault::Kind(TextKind::TooMany));
     }
-    rules.push(RuleLine { line, rule })?;
+    let Ok(()) = rules.sink.put(RuleLine { line, rule }) else {
+        return Err(LineFault::Memory);
+    };
+    rules.count += 1;
     Ok(())
 }
 
 // Adds the rule of the first line of a text, where it is written with single spaces and there is room
 // for it, and gives what stands behind it.
-fn add_plain_rule<'a>(rules: &mut Vec<RuleLine>, line: usize, text: &'a [u8]) -> Option<&'a [u8]>
-    requires { AreNamedLines rules.old.items }
-    ensures made { MatchOption result (rules.new.items ≡ rules.old.items)
-        (λ rest. MakesFirst (rule_item line) rules.old.items text.now rules.new.items rest.now) }
-    ensures named { AreNamedLines rules.new.items }
+fn add_plain_rule<'a, S: RuleSink>(
+    rules: &mut Counted<S>,
+    line: usize,
+    text: &'a [u8],
+) -> Option<&'a [u8]>
+    requires { S.IsSound rules.old.sink }
+    ensures made { MatchOption result
+        ((S.made rules.new.sink ≡ S.made rules.old.sink) × (rules.new.count ≡ rules.old.count))
+        (λ rest. MakesFirst (counted_item S.with_rule line) (S.made rules.old.sink, rules.old.count) text.now
+        (S.made rules.new.sink, rules.new.count) rest.now) }
+    ensures sound { S.IsSound rules.new.sink }
 {
     let Some(found) = cut_rule(text) else {
         return None;
     };
-    if is_full(rules.as_slice()) {
+    if rules.is_full() {
         return None;
     }
     let rule = found.0;
-    match rules.push(RuleLine { line, rule }) {
-        Ok(()) => Some(found.2),
-        Err(_) => None,
-    }
+    let Ok(()) = rules.sink.put(RuleLine { line, rule }) else {
+        return None;
+    };
+    rules.count += 1;
+    Some(found.2)
 }
 
-impl Items for Vec<RuleLine> {
-    ghost Made = { List RuleLine };
+impl<S: RuleSink> Items for Counted<S> {
+    ghost Made = { S.Made × ℕ };
 
-    ghost made = { λ rules. rules.items };
+    ghost made = { λ rules. (S.made rules.sink, rules.count) };
 
-    ghost item = { rule_item };
+    ghost item = { counted_item S.with_rule };
 
-    ghost IsSound = { λ rules. AreNamedLines rules.items };
+    ghost IsSound = { λ rules. S.IsSound rules.sink };
 
     fn add(&mut self, line: usize, first: &[u8], rest: &[u8]) -> Result<(), LineFault> {
         add_rule(self, line, first, rest)
@@ -162,7 +227,24 @@ impl Items for Vec<RuleLine> {
     }
 }
 
-#[tactic(auto, unfolding(crate::specs::RuleText::rules_text))]
+/// Gives a sink the rules of a text in turn, with their lines, and gives the sink back. No list of the
+/// rules is made.
+///
+/// `At` names the first faulty line. Its kind is one of those of `read_rule`, or `TooMany` where
+/// there are `MOST_RULES` rules already. `Memory` is answered where the sink was refused memory,
+/// whatever stands further on. After an error the sink is gone.
+pub fn read_rules_into<S: RuleSink + Drop>(sink: S, text: &[u8]) -> Result<S, TextFault>
+    requires { S.IsSound sink }
+    ensures value { Reads S.made result (rules_make S.with_rule (S.made sink) text.now) }
+    ensures sound { IfOk result S.IsSound }
+{
+    let mut rules = Counted { sink, count: 0 };
+    match read_lines(&mut rules, text) {
+        Ok(_) => Ok(rules.sink),
+        Err(fault) => Err(fault),
+    }
+}
+
 /// The rules of a text, with their lines.
 ///
 /// `At` names the first faulty line. Its kind is one of those of `read_rule`, or `TooMany` where
@@ -172,7 +254,5 @@ pub fn read_rules(alloc: Global, text: &[u8]) -> Result<Vec<RuleLine>, TextFault
     ensures value { Reads (λ rules. rules.items) result (rules_text text.now) }
     ensures named { IfOk result (λ rules. AreNamedLines rules.items) }
 {
-    let mut rules = Vec::new(alloc);
-    read_lines(&mut rules, text)?;
-    Ok(rules)
+    read_rules_into(Vec::new(alloc), text)
 }

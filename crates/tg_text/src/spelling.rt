@@ -118,7 +118,9 @@ pub fn append_rule(text: &mut Vec<u8>, rule: &Rule) -> Result<(), AllocError>
 // Appends a space and the words of a refusal.
 fn put_refusal(text: &mut Vec<u8>, refusal: Refusal)
     requires { vec_len text.old + LONGEST_REFUSAL ≤ vec_capacity text.old }
-    ensures { text.new.items ≡ text.old.items ++ 32 ∷ spaced (refusal_words refusal) }
+    ensures items { text.new.items ≡ text.old.items ++ 32 ∷ spaced (refusal_words refusal) }
+    ensures len { vec_len text.new ≤ vec_len text.old + LONGEST_REFUSAL }
+    ensures capacity { vec_capacity text.old ≤ vec_capacity text.new }
 {
     match refusal {
         Refusal::Unknown(name) => {
@@ -146,6 +148,8 @@ pub fn append_reply(text: &mut Vec<u8>, reply: &Reply) -> Result<(), AllocError>
     ensures appended { OnOk result (text.new.items ≡ text.old.items ++ reply_text reply.now) }
     ensures kept { OnErr result (text.new.items ≡ text.old.items) }
     ensures full { OnErr result (vec_capacity text.old < vec_len text.old + LONGEST_REPLY) }
+    ensures len { vec_len text.new ≤ vec_len text.old + LONGEST_REPLY }
+    ensures capacity { vec_capacity text.old ≤ vec_capacity text.new }
 {
     text.reserve(LONGEST_REPLY)?;
     match *reply {
@@ -196,6 +200,8 @@ pub fn append_number(text: &mut Vec<u8>, number: usize) -> Result<(), AllocError
     ensures appended { OnOk result (text.new.items ≡ text.old.items ++ decimal number) }
     ensures kept { OnErr result (text.new.items ≡ text.old.items) }
     ensures full { OnErr result (vec_capacity text.old < vec_len text.old + LONGEST_NUMBER) }
+    ensures len { vec_len text.new ≤ vec_len text.old + LONGEST_NUMBER }
+    ensures capacity { vec_capacity text.old ≤ vec_capacity text.new }
 {
     text.reserve(LONGEST_NUMBER)?;
     put_number(text, number);
