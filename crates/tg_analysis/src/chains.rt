@@ -39,7 +39,7 @@ fn add_unmet(
 }
 
 // The positions of the neighbours of a vertex.
-fn neighbours<'a>(graph: &Graph, links: &'a Links, vertex: Name) -> &'a [usize]
+fn neighbours<'a>(graph: &Graph, links: &'a Links, vertex: Name) -> &'a [u32]
     requires links { AreLinks (graph_of graph.now) links.now }
     requires known { IsTrue (has_vertex (graph_of graph.now) vertex) }
     ensures { AreNear (graph_of graph.now) vertex result.now }
@@ -66,7 +66,7 @@ fn unmet(
     let mut names = Vec::new(alloc);
     let near = neighbours(graph, links, vertex);
     for position in near {
-        add_unmet(graph, met, *position, &mut names)?;
+        add_unmet(graph, met, *position as usize, &mut names)?;
     }
     names.sort_unstable();
     Ok(names)

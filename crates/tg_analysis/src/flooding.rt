@@ -62,7 +62,7 @@ impl Flood {
         ensures { OnOk result (Meets (neighbours links.now position) self.old self.new) }
     {
         for neighbour in links.at(position) {
-            self.meet(*neighbour)?;
+            self.meet(*neighbour as usize)?;
         }
         Ok(())
     }

@@ -12,7 +12,7 @@ fn links_of(alloc: Global, graph: &Graph) -> Result<Links, AllocError> {
 }
 
 // So many vertices are linked to these positions each.
-fn assert_links(rt: &impl Abort, links: &Links, count: usize, near: &[&[usize]]) {
+fn assert_links(rt: &impl Abort, links: &Links, count: usize, near: &[&[u32]]) {
     assert!(rt; links.len() == count);
     for (position, neighbours) in near.iter().enumerate() {
         assert!(rt; links.at(position) == *neighbours);

@@ -8,10 +8,10 @@ use std::alloc::{AllocError, Global};
 use std::marker::Model;
 use tg_graph::{Graph, Right};
 
-// The positions of the vertices that are linked to one vertex.
+// The positions of the vertices that are linked to one vertex, four bytes each.
 #[derive(Drop)]
 struct Neighbours {
-    positions: Vec<usize>,
+    positions: Vec<u32>,
 }
 
 impl Model for Neighbours {
@@ -34,11 +34,14 @@ impl Neighbours {
     fn add(&mut self, position: usize) -> Result<(), AllocError>
         ensures { OnOk result (self.new ≡ self.old ++ position ∷ []) }
     {
+        let Ok(position) = u32::try_from(position) else {
+            return Err(AllocError);
+        };
         self.positions.push(position)?;
         Ok(())
     }
 
-    fn as_slice(&self) -> &[usize]
+    fn as_slice(&self) -> &[u32]
         ensures { result.now ≡ self.now }
     {
         self.positions.as_slice()
@@ -47,7 +50,8 @@ impl Neighbours {
 
 /// For each vertex of a graph, by position, the positions of the vertices that are linked to it.
 ///
-/// A neighbour may stand in a list more than once.
+/// A neighbour may stand in a list more than once. A position of 2^32 or more, of which no machine has
+/// so many vertices in memory, is refused as one for which there is no memory.
 #[derive(Drop)]
 pub struct Links {
     near: Vec<Neighbours>,
@@ -95,7 +99,7 @@ impl Links {
     }
 
     /// The positions of the vertices that are linked to the one at a position; none past the end.
-    pub fn at(&self, position: usize) -> &[usize]
+    pub fn at(&self, position: usize) -> &[u32]
         ensures { result.now ≡ neighbours self.now position }
     {
         match self.near.get(position) {
