@@ -13,3 +13,4 @@ pub mod TableTests
 pub mod IslandLines
 pub mod OnePlay
 pub mod RunLaws
+pub mod RulesPlayed

@@ -1,5 +1,5 @@
 -- What the parts of a report's making bring.
-use Rattle.std.specs.Prelude.{◌≡◌, ⊤, All, ◌<◌, ℕ, nat_eq, bytes_eq, position, map, filter, option_and_then, Bool, true, false, unwrap_or, List, [], ◌∷◌, ◌++◌, ◌≤◌, length, slice_index_or, Option, Some, None, Result, Ok, Err}
+use Rattle.std.specs.Prelude.{◌≡◌, if◌then◌else◌, ⊤, All, ◌<◌, ℕ, nat_eq, bytes_eq, position, map, filter, option_and_then, Bool, true, false, unwrap_or, List, [], ◌∷◌, ◌++◌, ◌≤◌, length, slice_index_or, Option, Some, None, Result, Ok, Err}
 use Rattle.std.specs.List.{flat_map}
 use Rattle.std.specs.Option.{option_eq, option_map_or}
 use Rattle.tg_graph.specs.declared.rules.Refusal.{Refusal}
@@ -24,8 +24,10 @@ use Rattle.officer.specs.declared.outcome.Halt.{Halt}
 use Rattle.officer.specs.declared.outcome.Halt.TheVariants as halt
 use Rattle.officer.specs.declared.inputs.Question.{Question}
 use Rattle.officer.specs.declared.inputs.TableWork.{TableWork}
-use Rattle.officer.specs.Readings.{ReportText, Question as Asked, TableQuestion}
-use Rattle.officer.specs.Reports.{Played, reply_line, island_line, digit_for}
+use Rattle.tg_text.specs.Reading.{◌>>=◌}
+use Rattle.officer.specs.declared.playing.AppliedRules.{AppliedRules}
+use Rattle.officer.specs.Readings.{ReportText, rules_in, Question as Asked, TableQuestion}
+use Rattle.officer.specs.Reports.{Played, played, reply_line, island_line, digit_for}
 use Rattle.officer.specs.Runs.{IsOutcome}
 
 abbrev pub report_text : Report → ReportText
@@ -57,11 +59,25 @@ abbrev pub PlaysRule : RuleLine → Bool → List ℕ → List ℕ → Protectio
 PlaysRule r true text text' g h = (refusal_of g r.rule ≡ None) × (h ≡ after g r.rule) × (text' ≡ text ++ reply_line r.line Done)
 PlaysRule r false text text' g h = (refusal : Refusal) × (refusal_of g r.rule ≡ Some refusal) × (h ≡ g) × (text' ≡ text ++ reply_line r.line (Refused refusal))
 
--- what rules do in turn is done: the replies are added to the text, and the graph and the status are those
-pub record HasPlayed (played : Played) (text text' : List ℕ) (end : ProtectionGraph) (status : ℕ) : Type 0 where
-  pub replies : text' ≡ text ++ played.replies
-  pub graph : end ≡ played.end
-  pub verdict : status ≡ played.status
+-- nothing was done to the graph so far
+abbrev pub nothing_played : ProtectionGraph → Played
+nothing_played g = record { replies = []; end = g; status = 0 }
+
+-- what rules did, and then others
+abbrev pub and_played : Played → Played → Played
+and_played p q = record { replies = p.replies ++ q.replies; end = q.end; status = q.status }
+
+-- what rules did, and one more: nothing once one was refused
+abbrev pub played_on : Played → RuleLine → Played
+played_on p r = if nat_eq p.status 0 then and_played p (played p.end (r ∷ [])) else p
+
+-- what the rules that were read so far did
+abbrev pub played_so_far : AppliedRules → Played
+played_so_far applied = record { replies = applied.replies.items; end = graph_of applied.graph; status = applied.status }
+
+-- what the rules of a text do to a graph, or the report of the text's first fault
+abbrev pub played_in : ProtectionGraph → List ℕ → Result Played ReportText
+played_in g text = rules_in text >>= λ rules. Ok (played g rules)
 
 -- the names whose vertices have that number
 abbrev pub with_number : List Name → List ℕ → ℕ → List Name → List Name

@@ -9,7 +9,7 @@ use crate::fault::Cause;
 use crate::fetch::FetchFault;
 use crate::outcome::Report;
 use crate::race::race;
-use crate::report::report;
+use crate::report::report_of_texts;
 use crate::surroundings::{Surroundings, WordsFault};
 use crate::words::{Call, read_words};
 use std::alloc::{AllocError, Global};
@@ -108,16 +108,16 @@ fn print<S: Surroundings>(surroundings: &mut S, report: &Report) -> Result<u8, C
 fn report_of<R: Threads + Sync + AllocGlobal>(
     rt: &R,
     call: &Call,
-    texts: &Texts,
+    texts: Texts,
 ) -> Result<Report, AllocError>
     ensures { IfOk result
         (λ report. IsReportOf
-        (command_of (call_words call.now)) texts.now.first.items texts.now.second.items
+        (command_of (call_words call.now)) texts.first.items texts.second.items
         (report_text report)) }
 {
     match call.command() {
         Some(command) => {
-            let made = report(rt, rt.alloc(), &command, &texts.first, &texts.second)?;
+            let made = report_of_texts(rt, rt.alloc(), &command, texts.first, texts.second)?;
             Ok(made)
         }
         None => {
@@ -140,7 +140,7 @@ fn answer<R: Threads + Sync + AllocGlobal, S: Surroundings>(
         Ok(texts) => texts,
         Err(cause) => return Err(cause),
     };
-    match report_of(rt, call, &texts) {
+    match report_of(rt, call, texts) {
         Ok(report) => print(surroundings, &report),
         Err(AllocError) => Err(Cause::Memory),
     }

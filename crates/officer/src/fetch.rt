@@ -71,7 +71,7 @@ pub fn fetch<R: Read>(alloc: Global, reader: &mut R) -> Result<Vec<u8>, FetchFau
     ensures too_large { IsErrOf result FetchFault.TooLarge
         → IfSome (R.remaining reader.old) (λ given. most_input_bytes < length given) }
 {
-    let mut piece = [0; 16_384];
+    let mut piece = [0; 65_536];
     let mut bytes = Vec::new(alloc);
     for _ in 0..MOST_READS {
         if read_on(reader, &mut piece, &mut bytes)? {

@@ -3,17 +3,17 @@ ghost use Rattle.std.specs.Prelude.{◌≡◌, ◌≤◌, ◌∷◌, ◌++◌, [
 ghost use Rattle.tg_graph.specs.GraphOf.{graph_of};
 ghost use Rattle.tg_graph.specs.Graphs.{has_vertex};
 ghost use Rattle.tg_graph.specs.Limits.{most_vertices};
-ghost use Rattle.tg_text.specs.RuleText.{AreNamedLines};
 ghost use Rattle.tg_text.specs.ScriptText.{script_of};
-ghost use Rattle.officer.specs.Readings.{kind_word, refusal, text_refusal, graph_in, rules_in, script_in, right_in, rights_in, name_in, vertex_in, question_in, workers_in, table_in};
-ghost use Rattle.officer.specs.Outcomes.{Brings, report_text, question_of, table_question_of, IsAskable, IsTableWork, IsPlayableScript};
+ghost use Rattle.officer.specs.Readings.{kind_word, refusal, text_refusal, graph_in, script_in, right_in, rights_in, name_in, vertex_in, question_in, workers_in, table_in};
+ghost use Rattle.officer.specs.Outcomes.{Brings, report_text, played_in, played_so_far, question_of, table_question_of, IsAskable, IsTableWork, IsPlayableScript};
 
 use crate::outcome::{Halt, Report};
+use crate::playing::AppliedRules;
 use std::alloc::{AllocError, Global};
 use tg_analysis::MOST_WORKERS;
 use tg_graph::{Graph, Name, NameFault, Refusal, Reply, Right, Rights};
 use tg_text::{
-    RuleLine, Script, TextFault, TextKind, append_reply, read_graph, read_rules, read_script,
+    Script, TextFault, TextKind, append_reply, read_graph, read_rules_into, read_script,
 };
 
 // The word for what is wrong with a line.
@@ -67,13 +67,12 @@ pub(crate) fn graph_in(alloc: Global, text: &[u8]) -> Result<Graph, Halt>
     }
 }
 
-// The rules of a text, or the report of its first fault.
-pub(crate) fn rules_in(alloc: Global, text: &[u8]) -> Result<Vec<RuleLine>, Halt>
-    ensures made { Brings (λ rules. rules.items) result (rules_in text.now) }
-    ensures named { IfOk result (λ rules. AreNamedLines rules.items) }
+// What the rules of a text do to a graph in turn, or the report of the text's first fault.
+pub(crate) fn rules_applied(alloc: Global, graph: Graph, text: &[u8]) -> Result<AppliedRules, Halt>
+    ensures { Brings played_so_far result (played_in (graph_of graph) text.now) }
 {
-    match read_rules(alloc, text) {
-        Ok(rules) => Ok(rules),
+    match read_rules_into(AppliedRules::none(alloc, graph), text) {
+        Ok(applied) => Ok(applied),
         Err(TextFault::At { line, kind }) => {
             Err(Halt::Refused(text_refusal(alloc, "rules", line, kind)?))
         }

@@ -3,7 +3,7 @@
 use crate::fetch::{FetchFault, fetch};
 use crate::outcome::Report;
 use crate::race::race;
-use crate::report::report;
+use crate::report::{report, report_of_texts};
 use crate::surroundings_tests::Zeros;
 use crate::words::Command;
 use std::alloc::AllocError;
@@ -42,6 +42,25 @@ fn reports<R: Abort + Threads + Sync + AllocGlobal>(
 fn refused_graphs(rt: HostRuntime) -> Result<(), Fail> {
     reports(&rt, Command::Check, b"", GRAPH)?;
     reports(&rt, Command::Islands, b"", b"a b\nc\n")?;
+    Ok(())
+}
+
+// The report of `check` for texts that it takes, which are copies of these.
+fn checked<R: Threads + Sync + AllocGlobal>(rt: &R, first: &[u8]) -> Result<Report, AllocError> {
+    let alloc = rt.alloc();
+    let first = Vec::from_slice(alloc, first)?;
+    report_of_texts(rt, alloc, &Command::Check, first, Vec::new(alloc))
+}
+
+#[test]
+fn refused_canonical_texts(rt: HostRuntime) -> Result<(), Fail> {
+    let text = b"version 2\nvertex b\nvertex a\nedge a b a\n";
+    let made = match checked(&rt, text) {
+        Ok(made) => made,
+        Err(AllocError) => checked(&rt, text)?,
+    };
+    assert!(rt; made.bytes.as_slice() == b"version 2\nvertex a\nvertex b\nedge a b a\n");
+    assert!(rt; made.status == 0);
     Ok(())
 }
 

@@ -1,51 +1,83 @@
-//! Rules carried out in turn.
-ghost use Rattle.std.specs.Prelude.{IfOk};
+//! Rules carried out in turn, as they are read.
+ghost use Rattle.std.specs.Prelude.{◌≡◌, IfOk, OnErr};
 ghost use Rattle.tg_graph.specs.GraphOf.{graph_of};
 ghost use Rattle.tg_graph.specs.Rules.{rights_of};
 ghost use Rattle.tg_graph.specs.Sets.{IsNamed};
-ghost use Rattle.tg_text.specs.RuleText.{AreNamedLines};
-ghost use Rattle.officer.specs.Reports.{played};
-ghost use Rattle.officer.specs.Outcomes.{PlaysRule, HasPlayed};
+ghost use Rattle.officer.specs.Outcomes.{PlaysRule, nothing_played, played_so_far};
 
-use std::alloc::AllocError;
+use std::alloc::{AllocError, Global};
 use tg_graph::{Graph, Reply, RuleFault};
-use tg_text::{RuleLine, append_number, append_reply};
+use tg_text::{LONGEST_NUMBER, LONGEST_REPLY, RuleLine, RuleSink, append_number, append_reply};
+
+// As many bytes as the line of a reply has at most, with its line feed.
+const LONGEST_REPLY_LINE: usize = LONGEST_NUMBER + LONGEST_REPLY + 2;
 
 // Carries out a rule, and appends its reply. It answers whether the rule was accepted.
 fn play_rule(text: &mut Vec<u8>, graph: &mut Graph, rule: &RuleLine) -> Result<bool, AllocError>
     requires { IsNamed (rights_of rule.now.rule) }
-    ensures { IfOk result
+    ensures played { IfOk result
         (λ accepted. PlaysRule rule.now accepted text.old.items text.new.items (graph_of graph.old)
         (graph_of graph.new)) }
+    ensures kept_text { OnErr result (text.new.items ≡ text.old.items) }
+    ensures kept_graph { OnErr result (graph.new ≡ graph.old) }
 {
+    // With room for the whole line nothing fails once the graph has changed.
+    text.reserve(LONGEST_REPLY_LINE)?;
     let reply = match graph.apply(&rule.rule) {
         Ok(()) => Reply::Done,
         Err(RuleFault::Refused(refusal)) => Reply::Refused(refusal),
         Err(RuleFault::Memory) => return Err(AllocError),
     };
     append_number(text, rule.line)?;
-    text.push(b' ')?;
+    text.push_reserved(b' ');
     append_reply(text, &reply)?;
-    text.push(b'\n')?;
+    text.push_reserved(b'\n');
     Ok(reply == Reply::Done)
 }
 
-// Carries out rules in turn, up to the first that is refused, and appends their replies. It answers
-// the status.
-pub(crate) fn play(
-    text: &mut Vec<u8>,
-    graph: &mut Graph,
-    rules: &[RuleLine],
-) -> Result<u8, AllocError>
-    requires { AreNamedLines rules.now }
-    ensures { IfOk result
-        (λ status. HasPlayed (played (graph_of graph.old) rules.now) text.old.items text.new.items
-        (graph_of graph.new) status) }
-{
-    for rule in rules {
-        if !play_rule(text, graph, rule)? {
-            return Ok(1);
+/// A graph to which rules are applied as they are read, up to the first that is refused, and the
+/// lines of their replies.
+#[derive(Drop)]
+pub(crate) struct AppliedRules {
+    pub graph: Graph,
+    pub replies: Vec<u8>,
+    /// The status of the report: 1 once a rule was refused.
+    pub status: u8,
+}
+
+impl AppliedRules {
+    /// No rules so far.
+    pub(crate) fn none(alloc: Global, graph: Graph) -> AppliedRules
+        ensures { played_so_far result ≡ nothing_played (graph_of graph) }
+    {
+        AppliedRules {
+            graph,
+            replies: Vec::new(alloc),
+            status: 0,
         }
     }
-    Ok(0)
+}
+
+impl RuleSink for AppliedRules {
+    ghost use Rattle.std.specs.Prelude.{⊤};
+    ghost use Rattle.officer.specs.Reports.{Played};
+    ghost use Rattle.officer.specs.Outcomes.{played_on, played_so_far};
+
+    ghost Made = { Played };
+
+    ghost made = { played_so_far };
+
+    ghost with_rule = { played_on };
+
+    ghost IsSound = { λ _. ⊤ };
+
+    fn put(&mut self, rule: RuleLine) -> Result<(), AllocError> {
+        if self.status > 0 {
+            return Ok(());
+        }
+        if !play_rule(&mut self.replies, &mut self.graph, &rule)? {
+            self.status = 1;
+        }
+        Ok(())
+    }
 }

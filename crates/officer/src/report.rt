@@ -5,11 +5,11 @@ ghost use Rattle.officer.specs.Readings.{graph_in};
 ghost use Rattle.officer.specs.Reports.{check_report, apply_report, IsReport, IsFor, AreIslandLines, graph_part, rules_part};
 ghost use Rattle.officer.specs.Outcomes.{Brings, Makes, report_text};
 
-use crate::inputs::{graph_in, rules_in};
+use crate::inputs::{graph_in, rules_applied};
 use crate::island_lines::islands_report;
 use crate::outcome::{Halt, Report};
 use crate::parts::parts_of;
-use crate::playing::play;
+use crate::playing::AppliedRules;
 use crate::running::run;
 use crate::sharing::{derive, share};
 use crate::table_lines::table;
@@ -28,6 +28,20 @@ fn check(alloc: Global, first: &[u8]) -> Result<Report, Halt>
     })
 }
 
+// The same, in the memory of the text, which is no longer needed once the graph is there.
+fn check_over(first: Vec<u8>) -> Result<Report, Halt>
+    ensures { Brings report_text result (check_report first.items) }
+{
+    let alloc = *first.allocator();
+    let graph = graph_in(alloc, &first)?;
+    let mut bytes = first;
+    bytes.clear();
+    Ok(Report {
+        bytes: write_graph_behind(bytes, &graph)?,
+        status: 0,
+    })
+}
+
 fn islands_of(alloc: Global, first: &[u8]) -> Result<Report, Halt>
     ensures { Makes (IsFor AreIslandLines (graph_in first.now)) result }
 {
@@ -39,13 +53,15 @@ fn islands_of(alloc: Global, first: &[u8]) -> Result<Report, Halt>
 fn apply(alloc: Global, first: &[u8], second: &[u8]) -> Result<Report, Halt>
     ensures { Brings report_text result (apply_report first.now second.now) }
 {
-    let mut graph = graph_in(alloc, first)?;
-    let rules = rules_in(alloc, second)?;
-    let mut bytes = Vec::new(alloc);
-    let status = play(&mut bytes, &mut graph, &rules)?;
-    bytes.extend_from_slice(b"graph\n")?;
+    let graph = graph_in(alloc, first)?;
+    let AppliedRules {
+        graph,
+        mut replies,
+        status,
+    } = rules_applied(alloc, graph, second)?;
+    replies.extend_from_slice(b"graph\n")?;
     Ok(Report {
-        bytes: write_graph_behind(bytes, &graph)?,
+        bytes: write_graph_behind(replies, &graph)?,
         status,
     })
 }
@@ -82,6 +98,30 @@ pub fn report<R: Threads + Sync>(
         Command::Run => run(alloc, first, second),
     };
     match made {
+        Ok(report) => Ok(report),
+        Err(Halt::Refused(report)) => Ok(report),
+        Err(Halt::Memory) => Err(AllocError),
+    }
+}
+
+/// The report of a command for its texts, which are let go of. It is made in the memory of the first
+/// where it is the graph of that text.
+///
+/// An error means that there was no memory. A table alone starts threads, and waits for them.
+pub fn report_of_texts<R: Threads + Sync>(
+    rt: &R,
+    alloc: Global,
+    command: &Command,
+    first: Vec<u8>,
+    second: Vec<u8>,
+) -> Result<Report, AllocError>
+    ensures { IfOk result
+        (λ report. IsReport (command_words command.now) first.items second.items (report_text report)) }
+{
+    let Command::Check = *command else {
+        return report(rt, alloc, command, &first, &second);
+    };
+    match check_over(first) {
         Ok(report) => Ok(report),
         Err(Halt::Refused(report)) => Ok(report),
         Err(Halt::Memory) => Err(AllocError),
