@@ -1,9 +1,8 @@
 # make demo       proves and builds the program, and shows it on the file service of examples/
 # make examples   compares what each example prints with what is stored beside it
 # make pictures   draws the examples; wants Graphviz
-# make test       the merge gate: every proof, the wrong bodies, the tests, the program; some two hours
-#                 on four slow processors from nothing. What it passed is kept on the machine, and is
-#                 not proved again
+# make test       the merge gate: rt ci, and beside it the wrong bodies; over two hours on four slow
+#                 processors
 # make refusals   the memory tests with each request for memory refused in turn: seconds, once the
 #                 gate or rt test has built the tests
 # make man        the manual page
@@ -98,9 +97,8 @@ pictures: build
 	$(call each_picture,write_picture)
 	@echo "The pictures are in $(PICTURES)."
 
-# (four crates or sets of wrong bodies side by side: some 12 GB; by itself rt ci counts on twice that)
 test:
-	@RT_JOBS=$${RT_JOBS:-4} rt ci
+	@checks/gate
 
 refusals:
 	@python3 checks/refusals.py

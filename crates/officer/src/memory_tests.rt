@@ -59,7 +59,7 @@ fn refused_canonical_texts(rt: HostRuntime) -> Result<(), Fail> {
         Ok(made) => made,
         Err(AllocError) => checked(&rt, text)?,
     };
-    assert!(rt; made.bytes.as_slice() == b"version 2\nvertex a\nvertex b\nedge a b a\n");
+    assert!(rt; made.bytes.as_slice() == b"version 2\nvertex a\nvertex b\nedge a b a\n".as_slice());
     assert!(rt; made.status == 0);
     Ok(())
 }

@@ -1,0 +1,162 @@
+#!/usr/bin/env python3
+"""Tries the wrong bodies of crates/*/must-fail/: the prover must refuse each.
+
+wrong_bodies.py [--lanes N] [--kept FOLDER] [--only WORD] [CRATE ..]
+
+`rt ci` tries them too, but those of a crate one after another, each with the whole crate. Here they are tried
+side by side, each with the module that it changes alone, and only where that one is proved with the whole crate.
+First each crate is checked whole, in a copy of the repository; then each lane tries wrong bodies in a copy of its own.
+Where --kept names a copy in which that was done, it is taken as it is. --only WORD tries those whose names have it.
+The last line is 'N refused, M not'.
+"""
+import argparse, glob, os, re, shutil, subprocess, sys, tempfile, time
+from concurrent.futures import ThreadPoolExecutor
+
+ROOT = os.path.dirname(os.path.dirname(os.path.abspath(__file__)))
+# How many wrong bodies a lane tries in one copy of a crate, before it asks for the next ones.
+SHARE = 35
+
+
+def crates_of(root):
+    """The repository's crates, lowest first, each with those that it stands on."""
+    found = {}
+    for line in open(f"{root}/crates.txt"):
+        names, _, libraries = line.split("#")[0].partition(":")
+        if names.strip():
+            found[names.split()[0]] = libraries.split()
+    below = {}
+    for name in found:
+        below[name] = [it for it in found[name] if it in found]
+    ordered = []
+    while len(ordered) < len(below):
+        ordered += [it for it in below if it not in ordered and all(dep in ordered for dep in below[it])]
+    return {it: below[it] for it in ordered}
+
+
+def all_below(crates, name):
+    return sorted({it for dep in crates[name] for it in [dep, *all_below(crates, dep)]})
+
+
+def copy_of(base, room, names, last=None):
+    """Copies of these crates in a folder of their own, with what checks have kept; of the last without its library."""
+    os.makedirs(f"{room}/crates")
+    shutil.copy2(f"{base}/HANDLES", room)
+    with open(f"{room}/crates.txt", "w") as file:
+        for line in open(f"{base}/crates.txt"):
+            if line.split("#")[0].split(":")[0].split()[:1] in [[it] for it in names]:
+                file.write(line)
+    for it in names:
+        unread = lambda at, inside, it=it: [name for name in inside if it == last and name == "rlib" and at.endswith("/out")]
+        shutil.copytree(f"{base}/crates/{it}", f"{room}/crates/{it}", symlinks=True, ignore=unread)
+    return room
+
+
+def checked(folder, *words, before=()):
+    """What a check of the crate in the folder says."""
+    return subprocess.run([*before, "rt", "check", *words], cwd=folder, stdin=subprocess.DEVNULL, stdout=subprocess.PIPE, stderr=subprocess.STDOUT, text=True, errors="replace").stdout
+
+
+def looked_at(folder, *modules):
+    """What a check of these modules says, or of the whole crate. It leaves the processors to what others do."""
+    return checked(folder, "--jobs", "1", *modules, before=["nice"])
+
+
+def is_proved(said):
+    return re.findall(r"^logic=\S+", said, re.M)[-1:] == ["logic=proved"]
+
+
+def edited(folder, path):
+    """The files that a wrong body changes, each with its text now and its text then."""
+    texts, file, old = {}, "", ""
+    for line in open(path).read().splitlines():
+        word, _, rest = line.partition(": ")
+        if word == "file":
+            file = rest
+            texts.setdefault(file, [open(f"{folder}/{file}").read()] * 2)
+        elif word == "old":
+            old = rest
+        elif word == "new":
+            now, then = texts[file]
+            if then.count(old) != 1:
+                return None
+            texts[file] = [now, then.replace(old, rest)]
+    return texts
+
+
+def verdict(said):
+    """Whether the prover refused a check's crate or module, or None where no prover saw it."""
+    if re.search(r"^\S*src/\S+: error: .*(is not in scope|has no field|is no name)", said, re.M):
+        return None
+    parts = re.findall(r"^only=(\d+) proved=(\d+)", said, re.M)
+    if parts:
+        return parts[-1][0] != parts[-1][1]
+    whole = re.findall(r"^logic=(proved|not-proved)", said, re.M)
+    return whole[-1] == "not-proved" if whole else None
+
+
+def put(folder, texts):
+    for file, text in texts.items():
+        with open(f"{folder}/{file}", "w") as it:
+            it.write(text)
+
+
+def only(files):
+    """The words that have a check look at the modules of these files alone."""
+    return [word for file in files for word in ("--only", os.path.basename(file).removesuffix(".rt"))]
+
+
+def tried(folder, path):
+    """What the prover says of a wrong body in the crate in the folder, which is then as it was."""
+    texts = edited(folder, path)
+    if texts is None:
+        return False, "BAD EDIT: an old text does not stand once"
+    modules = only(texts)
+    times = {file: os.stat(f"{folder}/{file}") for file in texts}
+    put(folder, {file: then for file, (_, then) in texts.items()})
+    refused = verdict(looked_at(folder, *modules)) or verdict(looked_at(folder))
+    put(folder, {file: now for file, (now, _) in texts.items()})
+    for file, it in times.items():
+        os.utime(f"{folder}/{file}", ns=(it.st_atime_ns, it.st_mtime_ns))
+    return refused is True, {True: "refused", False: "NOT REFUSED", None: "BAD EDIT: the prover did not see it"}[refused]
+
+
+def lane(base, crates, name, paths):
+    """Tries some wrong bodies of a crate, and says of each whether it was refused. The crate as it is comes first."""
+    with tempfile.TemporaryDirectory(prefix="wrong-bodies-") as room:
+        folder = f"{copy_of(base, f'{room}/copy', [*all_below(crates, name), name], name)}/crates/{name}"
+        if verdict(looked_at(folder, *only(edited(folder, paths[0])))) is not False:
+            raise RuntimeError(f"{name} is not proved in a copy, so no wrong body of it is tried")
+        ends = []
+        for path in paths:
+            began = time.time()
+            well, says = tried(folder, path)
+            print(f"{name}/{os.path.basename(path)}: {says} ({time.time() - began:.0f} s)", flush=True)
+            ends.append(well)
+        return ends
+
+
+def main():
+    parser = argparse.ArgumentParser()
+    parser.add_argument("crates", nargs="*")
+    parser.add_argument("--lanes", type=int, default=4)
+    parser.add_argument("--kept")
+    parser.add_argument("--only", default="")
+    given = parser.parse_args()
+    crates = crates_of(ROOT)
+    with tempfile.TemporaryDirectory(prefix="wrong-bodies-") as room:
+        base = given.kept or copy_of(ROOT, f"{room}/base", crates)
+        with ThreadPoolExecutor(given.lanes) as pool:
+            ends = []
+            for name in crates:
+                if not given.kept and not is_proved(checked(f"{base}/crates/{name}", "--jobs", "1")):
+                    sys.exit(f"{name} is not proved, so no wrong body of it is tried")
+                paths = sorted(glob.glob(f"{ROOT}/crates/{name}/must-fail/*{given.only}*.edit"))
+                for at in range(0, len(paths) if name in (given.crates or crates) else 0, SHARE):
+                    ends.append(pool.submit(lane, base, crates, name, paths[at : at + SHARE]))
+            wells = [well for it in ends for well in it.result()]
+    print(f"{sum(wells)} refused, {len(wells) - sum(wells)} not")
+    sys.exit(0 if all(wells) else 1)
+
+
+if __name__ == "__main__":
+    main()
