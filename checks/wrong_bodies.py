@@ -9,12 +9,11 @@ First each crate is checked whole, in a copy of the repository; then each lane t
 Where --kept names a copy in which that was done, it is taken as it is. --only WORD tries those whose names have it.
 The last line is 'N refused, M not'.
 """
-import argparse, glob, os, re, shutil, subprocess, sys, tempfile, time
-from concurrent.futures import ThreadPoolExecutor
+import argparse, glob, os, re, shutil, subprocess, sys, tempfile, threading, time, traceback
 
 ROOT = os.path.dirname(os.path.dirname(os.path.abspath(__file__)))
 # How many wrong bodies a lane tries in one copy of a crate, before it asks for the next ones.
-SHARE = 35
+SHARE = 19
 
 
 def crates_of(root):
@@ -135,6 +134,49 @@ def lane(base, crates, name, paths):
         return ends
 
 
+class Shares:
+    """Shares of wrong bodies that are still to be tried. The one that came last is given first: of the highest crate, whose take longest."""
+
+    def __init__(self):
+        self.waiting, self.is_whole, self.changed = [], False, threading.Condition()
+
+    def put(self, *share):
+        with self.changed:
+            self.waiting.append(share)
+            self.changed.notify()
+
+    def end(self):
+        with self.changed:
+            self.is_whole = True
+            self.changed.notify_all()
+
+    def take(self):
+        with self.changed:
+            self.changed.wait_for(lambda: self.waiting or self.is_whole)
+            return self.waiting.pop() if self.waiting else None
+
+
+def try_all(shares, wells):
+    """Tries shares until there is none. A share that could not be tried counts as one wrong body that was not refused."""
+    while (share := shares.take()) is not None:
+        try:
+            wells += lane(*share)
+        except Exception:
+            traceback.print_exc()
+            wells.append(False)
+
+
+def give_all(shares, base, crates, given):
+    """Checks each crate whole where that was not done, and then gives its wrong bodies out."""
+    for name in crates:
+        if not given.kept and not is_proved(checked(f"{base}/crates/{name}", "--jobs", "2")):
+            return f"{name} is not proved, so no wrong body of it is tried"
+        paths = sorted(glob.glob(f"{ROOT}/crates/{name}/must-fail/*{given.only}*.edit"))
+        for at in range(0, len(paths) if name in (given.crates or crates) else 0, SHARE):
+            shares.put(base, crates, name, paths[at : at + SHARE])
+    return None
+
+
 def main():
     parser = argparse.ArgumentParser()
     parser.add_argument("crates", nargs="*")
@@ -145,15 +187,18 @@ def main():
     crates = crates_of(ROOT)
     with tempfile.TemporaryDirectory(prefix="wrong-bodies-") as room:
         base = given.kept or copy_of(ROOT, f"{room}/base", crates)
-        with ThreadPoolExecutor(given.lanes) as pool:
-            ends = []
-            for name in crates:
-                if not given.kept and not is_proved(checked(f"{base}/crates/{name}", "--jobs", "1")):
-                    sys.exit(f"{name} is not proved, so no wrong body of it is tried")
-                paths = sorted(glob.glob(f"{ROOT}/crates/{name}/must-fail/*{given.only}*.edit"))
-                for at in range(0, len(paths) if name in (given.crates or crates) else 0, SHARE):
-                    ends.append(pool.submit(lane, base, crates, name, paths[at : at + SHARE]))
-            wells = [well for it in ends for well in it.result()]
+        shares, wells = Shares(), []
+        lanes = [threading.Thread(target=try_all, args=(shares, wells)) for _ in range(given.lanes)]
+        for it in lanes:
+            it.start()
+        try:
+            fault = give_all(shares, base, crates, given)
+        finally:
+            shares.end()
+            for it in lanes:
+                it.join()
+        if fault:
+            sys.exit(fault)
     print(f"{sum(wells)} refused, {len(wells) - sum(wells)} not")
     sys.exit(0 if all(wells) else 1)
 
