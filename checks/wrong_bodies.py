@@ -119,11 +119,11 @@ def tried(folder, path):
     return refused is True, {True: "refused", False: "NOT REFUSED", None: "BAD EDIT: the prover did not see it"}[refused]
 
 
-def lane(base, crates, name, paths):
-    """Tries some wrong bodies of a crate, and says of each whether it was refused. The crate as it is comes first."""
+def lane(base, crates, name, paths, is_first):
+    """Tries some wrong bodies of a crate, and says of each whether it was refused. The first share looks at the crate as it is before."""
     with tempfile.TemporaryDirectory(prefix="wrong-bodies-") as room:
         folder = f"{copy_of(base, f'{room}/copy', [*all_below(crates, name), name], name)}/crates/{name}"
-        if verdict(looked_at(folder, *only(edited(folder, paths[0])))) is not False:
+        if is_first and verdict(looked_at(folder, *only(edited(folder, paths[0])))) is not False:
             raise RuntimeError(f"{name} is not proved in a copy, so no wrong body of it is tried")
         ends = []
         for path in paths:
@@ -173,7 +173,7 @@ def give_all(shares, base, crates, given):
             return f"{name} is not proved, so no wrong body of it is tried"
         paths = sorted(glob.glob(f"{ROOT}/crates/{name}/must-fail/*{given.only}*.edit"))
         for at in range(0, len(paths) if name in (given.crates or crates) else 0, SHARE):
-            shares.put(base, crates, name, paths[at : at + SHARE])
+            shares.put(base, crates, name, paths[at : at + SHARE], at == 0)
     return None
 
 
