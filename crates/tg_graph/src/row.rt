@@ -1,5 +1,5 @@
 //! The edges out of one vertex.
-ghost use Rattle.std.specs.Prelude.{◌≡◌, true, Some, None, ◌<◌, ◌≤◌, [], IfOk, IfErr, OnOk, OnErr, bytes_eq, length, slice_get, MatchBool};
+ghost use Rattle.std.specs.Prelude.{◌≡◌, true, Some, None, ◌+◌, ◌<◌, ◌≤◌, [], IfOk, IfErr, OnOk, OnErr, bytes_eq, length, slice_get, MatchBool};
 ghost use Rattle.std.specs.Map.{lookup};
 ghost use Rattle.tg_graph.specs.Sets.{IsNamed};
 ghost use Rattle.tg_graph.specs.Rows.{label_in, IsLabel, IsRow, Puts, Adds, TakesAway, IsPlaceOf, IsGapFor, AreBelow, AreAbove};
@@ -13,6 +13,10 @@ use bitflags::Flags;
 use std::alloc::{AllocError, Global};
 use std::cmp::Ordering;
 use std::marker::Model;
+
+// A search goes on by halves down to so few edges. The rest are counted, which is faster, as the
+// processor has no branch to guess.
+const FEW_EDGES: usize = 8;
 
 /// The edges out of one vertex, in name order of their targets.
 #[derive(Drop)]
@@ -109,16 +113,18 @@ impl Row {
         place < self.edges.len() && self.edges.target(place) == y
     }
 
-    // How many targets stand in front of the first that is above y, found by halves.
-    fn count_up_to(&self, y: Name) -> usize
-        ensures within { result ≤ length self.now }
-        ensures last { LastIsNotAbove self.now y result }
-        ensures above { AreAbove self.now y result }
-        ensures row { IsRow self.now }
+    // Two places with few edges between them, found by halves: no target in front of the first is
+    // above y, and each from the second on is.
+    fn halve_up_to(&self, y: Name) -> (usize, usize)
+        ensures order { result.0 ≤ result.1 }
+        ensures few { result.1 ≤ result.0 + FEW_EDGES }
+        ensures within { result.1 ≤ length self.now }
+        ensures last { LastIsNotAbove self.now y result.0 }
+        ensures above { AreAbove self.now y result.1 }
     {
         let mut low = 0;
         let mut high = self.edges.len();
-        while low < high {
+        while high - low > FEW_EDGES {
             let middle = low + (high - low) / 2;
             if self.edges.target(middle).cmp(&y).is_gt() {
                 high = middle;
@@ -126,7 +132,23 @@ impl Row {
                 low = middle + 1;
             }
         }
-        low
+        (low, high)
+    }
+
+    // How many targets stand in front of the first that is above y. The few edges that halving leaves
+    // are all looked at, so that no branch depends on their names.
+    fn count_up_to(&self, y: Name) -> usize
+        ensures within { result ≤ length self.now }
+        ensures last { LastIsNotAbove self.now y result }
+        ensures above { AreAbove self.now y result }
+        ensures row { IsRow self.now }
+    {
+        let (low, high) = self.halve_up_to(y);
+        let mut count = low;
+        for place in low..high {
+            count += usize::from(!self.edges.target(place).cmp(&y).is_gt());
+        }
+        count
     }
 
     // Where the edge to y is, or where it would go, found by halves.

@@ -1,16 +1,12 @@
-use Rattle.std.proofs.Common.{◌-◌, ◌≤◌, length}
+use Rattle.std.proofs.Common.{◌<◌, ◌≤◌}
 use Rattle.tg_graph.specs.Rows.{AreAbove}
 use Rattle.tg_graph.specs.Halves.{LastIsNotAbove}
 use Rattle.tg_graph.proofs.row.Row.count_up_to.Given as goal
 
--- the target in front of `low` is not above y, and those from `high` on are
-abbrev pub invariant-loop-low : goal.invariant-loop-low
-invariant-loop-low l = record {
-  order : l.low ≤ l.high;
-  within : l.high ≤ length l.self-inside.edges;
-  last : LastIsNotAbove l.self-inside.edges l.y l.low;
-  above : AreAbove l.self-inside.edges l.y l.high;
+-- the target in front of `count` is not above y, and where one was left out, those from `count` on are
+abbrev pub invariant-loop-place : goal.invariant-loop-place
+invariant-loop-place l = record {
+  order : l.count ≤ l.place;
+  last : LastIsNotAbove l.self-inside.edges l.y l.count;
+  above : l.count < l.place → AreAbove l.self-inside.edges l.y l.count;
 }
-
-abbrev pub decreases-loop-low : goal.decreases-loop-low
-decreases-loop-low l = l.high - l.low
