@@ -27,3 +27,4 @@ pub mod SmallGraphs
 pub mod LikelyLines
 pub mod PlainRules
 pub mod RuleSinks
+pub mod Digits

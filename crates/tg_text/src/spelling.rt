@@ -26,6 +26,7 @@ const LONGEST_RIGHTS: usize = 8;
 const LONGEST_REFUSAL: usize = 25;
 
 // Appends bytes for which there is room.
+#[inline(always)]
 pub(crate) fn put(text: &mut Vec<u8>, bytes: &[u8])
     requires { vec_len text.old + length bytes.now ≤ vec_capacity text.old }
     ensures items { text.new.items ≡ text.old.items ++ bytes.now }
@@ -165,6 +166,7 @@ pub fn append_reply(text: &mut Vec<u8>, reply: &Reply) -> Result<(), AllocError>
 }
 
 // Appends the digits of a number below 100, of which there may be a zero in front.
+#[inline(always)]
 fn put_two_digits(text: &mut Vec<u8>, number: usize)
     requires below { number < 100 }
     requires room { vec_len text.old + 2 ≤ vec_capacity text.old }
@@ -177,9 +179,11 @@ fn put_two_digits(text: &mut Vec<u8>, number: usize)
     text.push_reserved(b'0' + (number % 10) as u8);
 }
 
-// Appends a number in decimal, two digits at a time.
-fn put_number(text: &mut Vec<u8>, number: usize)
-    requires { vec_len text.old + length (decimal number) ≤ vec_capacity text.old }
+// Appends a number below 100 in decimal.
+#[inline(always)]
+fn put_one_or_two_digits(text: &mut Vec<u8>, number: usize)
+    requires below { number < 100 }
+    requires room { vec_len text.old + length (decimal number) ≤ vec_capacity text.old }
     ensures items { text.new.items ≡ text.old.items ++ decimal number }
     ensures len { vec_len text.new ≡ vec_len text.old + length (decimal number) }
     ensures capacity { vec_capacity text.old ≤ vec_capacity text.new }
@@ -188,9 +192,39 @@ fn put_number(text: &mut Vec<u8>, number: usize)
         text.push_reserved(b'0' + number as u8);
         return;
     }
-    if number >= 100 {
-        put_number(text, number / 100);
+    put_two_digits(text, number);
+}
+
+// Appends a number below 10,000 in decimal.
+#[inline(always)]
+fn put_up_to_four_digits(text: &mut Vec<u8>, number: usize)
+    requires below { number < 10000 }
+    requires room { vec_len text.old + length (decimal number) ≤ vec_capacity text.old }
+    ensures items { text.new.items ≡ text.old.items ++ decimal number }
+    ensures len { vec_len text.new ≡ vec_len text.old + length (decimal number) }
+    ensures capacity { vec_capacity text.old ≤ vec_capacity text.new }
+{
+    if number < 100 {
+        put_one_or_two_digits(text, number);
+        return;
     }
+    put_one_or_two_digits(text, number / 100);
+    put_two_digits(text, number % 100);
+}
+
+// Appends a number in decimal, four digits at a time.
+fn put_number(text: &mut Vec<u8>, number: usize)
+    requires { vec_len text.old + length (decimal number) ≤ vec_capacity text.old }
+    ensures items { text.new.items ≡ text.old.items ++ decimal number }
+    ensures len { vec_len text.new ≡ vec_len text.old + length (decimal number) }
+    ensures capacity { vec_capacity text.old ≤ vec_capacity text.new }
+{
+    if number < 10_000 {
+        put_up_to_four_digits(text, number);
+        return;
+    }
+    put_number(text, number / 10_000);
+    put_two_digits(text, number / 100 % 100);
     put_two_digits(text, number % 100);
 }
 
