@@ -5,8 +5,8 @@ use Rattle.std.proofs.lemmas.Bool.{cases_lt, eqb-true, eq-eqb, or_cases, or_left
 use Rattle.std.proofs.lemmas.List.Folds.{list_any-append, list_any_at}
 use Rattle.tg_analysis.specs.declared.flooding.Flood.{Flood}
 use Rattle.tg_graph.specs.Rows.{Entries}
-use Rattle.tg_analysis.specs.Linked.{NeighbourLists, neighbours, is_near, linked_end}
-use Rattle.tg_analysis.specs.Flooding.{number_at, IsOneOf, HasWay, Meets, MeetsEnd, MeetsEnds, FloodsSoFar}
+use Rattle.tg_analysis.specs.Linked.{linked_end}
+use Rattle.tg_analysis.specs.Flooding.{number_at, IsOneOf, Meets, MeetsEnd, MeetsEnds}
 
 -- a number that was given stays
 abbrev pub Kept : Flood → Flood → Type 0
@@ -145,72 +145,3 @@ pub record TakesLast (p : ℕ) (old new : Flood) : Type 0 where
   pub numbers : new.numbers ≡ old.numbers
   pub current : new.current ≡ old.current
   pub waiting : old.waiting.items ≡ new.waiting.items ++ p ∷ []
-
-module _ (links : NeighbourLists) (seed : ℕ) (old now mid next : Flood) (p : ℕ) (f : FloodsSoFar links seed old now) (l : TakesLast p now mid) (m : Meets (neighbours links p) mid next) where
-  same : (a : ℕ) → number_at mid a ≡ number_at now a
-  same a = ap (λ numbers. number_at (record { numbers = numbers; waiting = mid.waiting; current = mid.current }) a) l.numbers
-
-  last_waits : IsOneOf p now.waiting.items
-  last_waits = subst (IsOneOf p) (sym l.waiting) (one_of-right p mid.waiting.items (p ∷ []) (single-one_of p))
-
-  current_is : mid.current ≡ old.current
-  current_is = l.current ∙ f.current
-
-  kept_on : Kept now next
-  kept_on a k e = m.kept a k (same a ∙ e)
-
-  on : (a : ℕ) → number_at next a ≡ Some mid.current → number_at next a ≡ Some old.current
-  on a e = e ∙ ap Some current_is
-
-  -- a neighbour of the position that was taken can be reached by way of it
-  abbrev Numbered : ℕ → Type 0
-  Numbered a = (number_at next a ≡ None) ⊎ ((number_at next a ≡ Some old.current) × HasWay links seed a)
-
-  way_on : (a : ℕ) → IsOneOf a (neighbours links p) → (number_at now p ≡ None) ⊎ ((number_at now p ≡ Some old.current) × HasWay links seed p) → HasWay links seed a
-  way_on a h (inl e) = absurd (true≢false (sym (ap is_some (f.waits p last_waits).1) ∙ ap is_some e))
-  way_on a h (inr w) = (p ∷ w.1.0, (w.1.1, h))
-
-  numbered-new : (a : ℕ) → (number_at next a ≡ None) ⊎ ((number_at next a ≡ Some mid.current) × IsOneOf a (neighbours links p) × IsOneOf a next.waiting.items) → Numbered a
-  numbered-new a (inl e) = inl e
-  numbered-new a (inr h) = inr (on a h.0, way_on a h.1 (f.numbered p (f.waits p last_waits).0))
-
-  numbered : (a : ℕ) → (number_at now a ≡ None) ⊎ ((number_at now a ≡ Some old.current) × HasWay links seed a) → Numbered a
-  numbered a (inl e) = numbered-new a (m.numbered a (same a ∙ e))
-  numbered a (inr h) = inr (kept_on a old.current h.0, h.1)
-
-  abbrev Spreads : ℕ → Type 0
-  Spreads a = IsOneOf a next.waiting.items ⊎ ((b : ℕ) → is_near links a b ≡ true → is_some (number_at next b) ≡ true)
-
-  spreads-waiting : (a : ℕ) → IsOneOf a mid.waiting.items ⊎ IsOneOf a (p ∷ []) → Spreads a
-  spreads-waiting a (inl h) = inl (m.still_waits a h)
-  spreads-waiting a (inr h) = inr (λ b near. m.met b (subst (λ n. is_near links n b ≡ true) (one_of-single a p h) near))
-
-  spreads-old : (a : ℕ) → IsOneOf a now.waiting.items ⊎ ((b : ℕ) → is_near links a b ≡ true → is_some (number_at now b) ≡ true) → Spreads a
-  spreads-old a (inl h) = spreads-waiting a (one_of-append a mid.waiting.items (p ∷ []) (subst (IsOneOf a) l.waiting h))
-  spreads-old a (inr h) = inr (λ b near. some_kept now next kept_on b (h b near))
-
-  spreads-new : (a : ℕ) → number_at next a ≡ Some old.current → (number_at next a ≡ None) ⊎ ((number_at next a ≡ Some mid.current) × IsOneOf a (neighbours links p) × IsOneOf a next.waiting.items) → Spreads a
-  spreads-new a e (inl n) = absurd (true≢false (sym (ap is_some e) ∙ ap is_some n))
-  spreads-new a e (inr h) = inl h.2
-
-  spreads : (a : ℕ) → number_at old a ≡ None → number_at next a ≡ Some old.current → Spreads a
-  spreads a e g = by (f.numbered a e)
-    where
-      by : (number_at now a ≡ None) ⊎ ((number_at now a ≡ Some old.current) × HasWay links seed a) → Spreads a
-      by (inl n) = spreads-new a g (m.numbered a (same a ∙ n))
-      by (inr h) = spreads-old a (f.spreads a e h.0)
-
-  waits : (a : ℕ) → IsOneOf a mid.waiting.items ⊎ ((number_at mid a ≡ None) × (number_at next a ≡ Some mid.current)) → (number_at old a ≡ None) × (number_at next a ≡ Some old.current)
-  waits a (inl h) = let w = f.waits a (subst (IsOneOf a) (sym l.waiting) (one_of-left a mid.waiting.items (p ∷ []) h)) in (w.0, kept_on a old.current w.1)
-  waits a (inr h) = (was_none old now f.kept a (sym (same a) ∙ h.0), on a h.1)
-
-  pub floods-more : FloodsSoFar links seed old next
-  floods-more = record {
-    len = m.len ∙ ap (λ numbers. length numbers.items) l.numbers ∙ f.len;
-    current = m.current ∙ current_is;
-    kept = λ a k e. kept_on a k (f.kept a k e);
-    numbered = λ a e. numbered a (f.numbered a e);
-    seed_met = some_kept now next kept_on seed f.seed_met;
-    spreads = spreads;
-    waits = λ a h. waits a (m.waits a h);
-  }

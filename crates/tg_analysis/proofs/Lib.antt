@@ -27,7 +27,9 @@ pub mod Created
 pub mod Places
 pub mod Linked
 pub mod FloodSteps
-pub mod Numbered
+pub mod DisjointSets
+pub mod JoinedSets
+pub mod SetNumbers
 pub mod JoinedHoldings
 pub mod Gathered
 pub mod Blocked

@@ -22,7 +22,7 @@ use Rattle.tg_analysis.proofs.Places.{position-at, holds-place, place-holds}
 
 -- ---- one more edge
 module _ (es : Entries) (i here : ℕ) where
-  before : (a place : ℕ) → IsBefore a place i (here + 1) → IsBefore a place i here ⊎ ((a ≡ i) × (place ≡ here))
+  pub before : (a place : ℕ) → IsBefore a place i (here + 1) → IsBefore a place i here ⊎ ((a ≡ i) × (place ≡ here))
   before a place (inl h) = inl (inl h)
   before a place (inr h) = by (cases_lt place here)
     where
@@ -125,19 +125,20 @@ pub place_within : (es : Entries) (a place b : ℕ) → linked_end es a place �
 place_within es a place b e = let h = has_end es a place b e in slice_get_within (row_number es a) place (h.name, h.label) h.read
 
 -- ---- the next row
-pub links-row : (es : Entries) (links : NeighbourLists) (i : ℕ) → LinksUpTo es links i (length (row_number es i)) → LinksUpTo es links (i + 1) 0
-links-row es links i s = record { len = s.len; from = s.from; there = λ a place b h e. s.there a place b (by a place b e h) e }
-  where
-    within : (a place b : ℕ) → linked_end es a place ≡ Some b → a ≡ i → place < length (row_number es i)
-    within a place b e q = subst (λ n. place < length (row_number es n)) q (place_within es a place b e)
+module _ (es : Entries) (i : ℕ) where
+  within : (a place b : ℕ) → linked_end es a place ≡ Some b → a ≡ i → place < length (row_number es i)
+  within a place b e q = subst (λ n. place < length (row_number es n)) q (place_within es a place b e)
 
-    by : (a place b : ℕ) → linked_end es a place ≡ Some b → IsBefore a place (i + 1) 0 → IsBefore a place i (length (row_number es i))
-    by a place b e (inl h) = cases (cases_lt a i)
-      where
-        cases : (a < i) ⊎ (i ≤ a) → IsBefore a place i (length (row_number es i))
-        cases (inl l) = inl l
-        cases (inr l) = let q : a ≡ i = omega arith in inr (q, within a place b e q)
-    by a place b e (inr h) = absurd (omega arith)
+  pub row-before : (a place b : ℕ) → linked_end es a place ≡ Some b → IsBefore a place (i + 1) 0 → IsBefore a place i (length (row_number es i))
+  row-before a place b e (inl h) = cases (cases_lt a i)
+    where
+      cases : (a < i) ⊎ (i ≤ a) → IsBefore a place i (length (row_number es i))
+      cases (inl l) = inl l
+      cases (inr l) = let q : a ≡ i = omega arith in inr (q, within a place b e q)
+  row-before a place b e (inr h) = absurd (omega arith)
+
+  pub links-row : (links : NeighbourLists) → LinksUpTo es links i (length (row_number es i)) → LinksUpTo es links (i + 1) 0
+  links-row links s = record { len = s.len; from = s.from; there = λ a place b h e. s.there a place b (row-before a place b e h) e }
 
 -- ---- all rows
 module _ (es : Entries) (ok : IsGraph es) where
@@ -174,7 +175,7 @@ module _ (es : Entries) (ok : IsGraph es) where
   end_within a place b e = let h = has_end es a place b e in (position-Some (bytes_eq h.name) (keys_of es) b h.name h.known).0
 
   -- each position is before the end
-  whole_before : (a place b : ℕ) → linked_end es a place ≡ Some b → IsBefore a place (length (keys_of es)) 0
+  pub whole_before : (a place b : ℕ) → linked_end es a place ≡ Some b → IsBefore a place (length (keys_of es)) 0
   whole_before a place b e = inl (row_there a place b e)
 
   -- the ends of a linking edge are linked

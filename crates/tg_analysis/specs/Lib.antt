@@ -2,6 +2,8 @@ pub mod Sharing
 pub mod Linked
 pub mod Numbering
 pub mod Flooding
+pub mod DisjointSets
+pub mod JoinedSets
 pub mod Spreading
 pub mod Moves
 pub mod Derivations

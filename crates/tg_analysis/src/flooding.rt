@@ -1,14 +1,11 @@
-//! The flood that finds the islands of a graph.
-ghost use Rattle.std.specs.Prelude.{◌≡◌, ◌<◌, ◌+◌, [], ◌∷◌, IfOk, OnOk, true, length, replicate, is_some, None, ℕ};
+//! The positions that a flood has met.
+ghost use Rattle.std.specs.Prelude.{◌≡◌, ◌<◌, [], ◌∷◌, IfOk, OnOk, true, length, replicate, None, ℕ};
 ghost use Rattle.std.specs.Map.{keys_of};
 ghost use Rattle.tg_graph.specs.Rows.{row_number};
-ghost use Rattle.tg_graph.specs.GraphOf.{graph_of};
 ghost use Rattle.tg_analysis.specs.Linked.{neighbours, is_near};
-ghost use Rattle.tg_analysis.specs.Numbering.{AreIslands};
-ghost use Rattle.tg_analysis.specs.Flooding.{number_in, Meets, Floods, NumbersUpTo, GoBothWays, AreTheNumbers, MeetsEnd, MeetsEnds};
+ghost use Rattle.tg_analysis.specs.Flooding.{Meets, MeetsEnd, MeetsEnds};
 
 use crate::links::{Links, linked_end};
-use crate::numbering::Islands;
 use std::alloc::{AllocError, Global};
 use tg_graph::Graph;
 
@@ -91,70 +88,4 @@ impl Flood {
         }
         Ok(())
     }
-
-    // Gives the island of a position the current number.
-    fn flood_from(&mut self, links: &Links, seed: usize) -> Result<(), AllocError>
-        requires both_ways { GoBothWays links.now }
-        requires len { length self.old.numbers.items ≡ length links.now }
-        requires within { seed < length links.now }
-        requires calm { self.old.waiting.items ≡ [] }
-        ensures { OnOk result (Floods links.now seed self.old self.new) }
-    {
-        self.meet(seed)?;
-        while let Some(position) = self.waiting.pop() {
-            self.meet_neighbours(links, position)?;
-        }
-        Ok(())
-    }
-
-    // Numbers the island of a position, if it has no number yet.
-    fn number_island(&mut self, links: &Links, position: usize) -> Result<(), AllocError>
-        requires both_ways { GoBothWays links.now }
-        requires within { position < length links.now }
-        requires so_far { NumbersUpTo links.now position self.old }
-        ensures { OnOk result (NumbersUpTo links.now (position + 1) self.new) }
-    {
-        if self.numbers[position].is_none() {
-            self.flood_from(links, position)?;
-            self.current += 1;
-        }
-        Ok(())
-    }
-}
-
-// The numbers, where each position has one.
-fn numbers_of(alloc: Global, numbered: &[Option<usize>]) -> Result<Vec<usize>, AllocError>
-    requires { (a : ℕ) → a < length numbered.now → is_some (number_in numbered.now a) ≡ true }
-    ensures { IfOk result (λ numbers. AreTheNumbers numbered.now numbers.items) }
-{
-    let mut numbers = Vec::with_capacity(alloc, numbered.len())?;
-    for number in numbered {
-        numbers.push(number.unwrap())?;
-    }
-    Ok(numbers)
-}
-
-// Numbers the islands of this many positions, one after another.
-fn flood_all(alloc: Global, links: &Links, count: usize) -> Result<Flood, AllocError>
-    requires both_ways { GoBothWays links.now }
-    requires len { count ≡ length links.now }
-    ensures { IfOk result (λ flood. NumbersUpTo links.now (length links.now) flood) }
-{
-    let mut flood = Flood::new(alloc, count)?;
-    for position in 0..count {
-        flood.number_island(links, position)?;
-    }
-    Ok(flood)
-}
-
-/// The islands of a graph, by one flood along its links.
-///
-/// The one error is want of memory.
-pub fn islands(alloc: Global, graph: &Graph) -> Result<Islands, AllocError>
-    ensures { IfOk result (λ numbers. AreIslands (graph_of graph.now) numbers) }
-{
-    let links = Links::of(alloc, graph)?;
-    let flood = flood_all(alloc, &links, graph.len())?;
-    let numbers = numbers_of(alloc, flood.numbers.as_slice())?;
-    Ok(Islands::new(numbers, flood.current))
 }

@@ -47,6 +47,29 @@ fn three_islands(rt: HostRuntime) -> Result<(), Fail> {
     Ok(())
 }
 
+// Sets of two and three are joined by edges that come late, in both directions.
+#[test]
+fn islands_that_join(rt: HostRuntime) -> Result<(), Fail> {
+    let g = graph(&rt, rt.alloc(), "a b c d e f", "f e t, d c g, b d t, f a g");
+    let found = islands_of(rt.alloc(), &g)?;
+    assert_numbers(&rt, &found, 2, &[0, 1, 1, 1, 0, 0]);
+    Ok(())
+}
+
+// The first row joins all, and further edges change nothing.
+#[test]
+fn one_island(rt: HostRuntime) -> Result<(), Fail> {
+    let g = graph(
+        &rt,
+        rt.alloc(),
+        "a b c d",
+        "a b t, a c g, a d t, b c g, c d r, d d t",
+    );
+    let found = islands_of(rt.alloc(), &g)?;
+    assert_numbers(&rt, &found, 1, &[0, 0, 0, 0]);
+    Ok(())
+}
+
 // Only take and grant link.
 #[test]
 fn islands_of_one(rt: HostRuntime) -> Result<(), Fail> {

@@ -5,6 +5,7 @@ mod answers;
 mod blocks;
 mod chains;
 mod derivations;
+mod disjoint_sets;
 #[cfg(test)]
 mod famine_tests;
 mod flooding;
@@ -13,6 +14,7 @@ mod gathering;
 mod holdings;
 #[cfg(test)]
 mod island_tests;
+mod joining;
 pub mod laws;
 mod links;
 #[cfg(test)]
@@ -20,6 +22,7 @@ mod memory_tests;
 mod met;
 mod moves;
 mod numbering;
+mod positions;
 #[cfg(test)]
 mod question_tests;
 mod questions;
@@ -37,8 +40,8 @@ mod test_graphs;
 
 pub use answers::{can_share, can_share_all};
 pub use derivations::{derivation, derivation_all};
-pub use flooding::islands;
 pub use gates::{Gate, OpenGate};
+pub use joining::islands;
 pub use numbering::Islands;
 pub use questions::AskFault;
 pub use table_faults::TableFault;

@@ -4,57 +4,17 @@ ghost use Rattle.std.specs.Map.{keys_of};
 ghost use Rattle.tg_graph.specs.GraphOf.{graph_of};
 ghost use Rattle.tg_analysis.specs.Linked.{neighbours, linked_end, AreLinks, AddsNeighbour, JoinsNeighbours, LinksUpTo};
 
+use crate::positions::Positions;
 use std::alloc::{AllocError, Global};
 use std::marker::Model;
 use tg_graph::{Graph, Right};
 
-// The positions of the vertices that are linked to one vertex, four bytes each.
-#[derive(Drop)]
-struct Neighbours {
-    positions: Vec<u32>,
-}
-
-impl Model for Neighbours {
-    ghost use Rattle.std.specs.Prelude.{List, ℕ};
-
-    ghost Value = { List ℕ };
-
-    ghost view = { λ n. n.positions.items };
-}
-
-impl Neighbours {
-    fn new(alloc: Global) -> Neighbours
-        ensures { result ≡ [] }
-    {
-        Neighbours {
-            positions: Vec::new(alloc),
-        }
-    }
-
-    fn add(&mut self, position: usize) -> Result<(), AllocError>
-        ensures { OnOk result (self.new ≡ self.old ++ position ∷ []) }
-    {
-        let Ok(position) = u32::try_from(position) else {
-            return Err(AllocError);
-        };
-        self.positions.push(position)?;
-        Ok(())
-    }
-
-    fn as_slice(&self) -> &[u32]
-        ensures { result.now ≡ self.now }
-    {
-        self.positions.as_slice()
-    }
-}
-
 /// For each vertex of a graph, by position, the positions of the vertices that are linked to it.
 ///
-/// A neighbour may stand in a list more than once. A position of 2^32 or more, of which no machine has
-/// so many vertices in memory, is refused as one for which there is no memory.
+/// A neighbour may stand in a list more than once.
 #[derive(Drop)]
 pub struct Links {
-    near: Vec<Neighbours>,
+    near: Vec<Positions>,
 }
 
 impl Model for Links {
@@ -116,7 +76,7 @@ impl Links {
     {
         let mut near = Vec::with_capacity(alloc, count)?;
         for _ in 0..count {
-            near.push(Neighbours::new(alloc))?;
+            near.push(Positions::new(alloc))?;
         }
         Ok(Links { near })
     }

@@ -9,7 +9,7 @@ use crate::gates::Gate;
 use crate::holdings::Holdings;
 use crate::numbering::Islands;
 use crate::table_faults::TableFault;
-use crate::{flooding, laws};
+use crate::{joining, laws};
 use std::alloc::{AllocError, Global};
 use std::marker::Model;
 use std::thread::Threads;
@@ -73,7 +73,7 @@ fn compute<R: Threads + Sync, G: Gate>(
 {
     laws::shared_exactly();
     let _ = graph.len();
-    let islands = flooding::islands(alloc, graph)?;
+    let islands = joining::islands(alloc, graph)?;
     let held = gather_all(rt, alloc, graph, &islands, right, workers, gate)?;
     Ok(PairTable { islands, held })
 }

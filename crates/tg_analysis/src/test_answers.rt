@@ -2,8 +2,8 @@
 //! the check of a test that makes many of them stays short.
 use crate::answers::{can_share, can_share_all};
 use crate::derivations::{derivation, derivation_all};
-use crate::flooding::islands;
 use crate::gates::{Gate, OpenGate};
+use crate::joining::islands;
 use crate::numbering::Islands;
 use crate::questions::AskFault;
 use crate::table_faults::TableFault;

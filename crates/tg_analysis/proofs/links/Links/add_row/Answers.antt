@@ -7,4 +7,4 @@ use Rattle.tg_analysis.proofs.links.Links.add_row.Goals as goal
 pub returns : goal.returns
 returns c =
     let end : c.loop-place.place ≡ length (row_number c.args.graph.now c.args.position) = omega (arith, c.row_len-place-end.ensures) in
-    links-row c.args.graph.now c.loop-place.self c.args.position (subst (LinksUpTo c.args.graph.now c.loop-place.self c.args.position) end c.loop-place.invariant)
+    links-row c.args.graph.now c.args.position c.loop-place.self (subst (LinksUpTo c.args.graph.now c.loop-place.self c.args.position) end c.loop-place.invariant)
