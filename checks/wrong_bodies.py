@@ -3,8 +3,10 @@
 
 wrong_bodies.py [--lanes N] [--kept FOLDER] [--only WORD] [CRATE ..]
 
-`rt ci` tries them too, but those of a crate one after another, each with the whole crate. Here they are tried
-side by side, each with the module that it changes alone, and only where that one is proved with the whole crate.
+`rt ci` tries them too, but those of a crate one after another, each with the whole crate. Here ten stand at once, each
+in the body of another function, and the prover looks at their modules: what the proof of a function reads is its own
+body and the contracts of others, so none is refused for another's sake. A wrong body whose function is not refused so
+is tried alone, with the module that it changes, and where that one is proved with the whole crate.
 First each crate is checked whole, in a copy of the repository; then each lane tries wrong bodies in a copy of its own.
 Where --kept names a copy in which that was done, it is taken as it is. --only WORD tries those whose names have it.
 The last line is 'N refused, M not'.
@@ -12,8 +14,11 @@ The last line is 'N refused, M not'.
 import argparse, glob, os, re, shutil, subprocess, sys, tempfile, threading, time, traceback
 
 ROOT = os.path.dirname(os.path.dirname(os.path.abspath(__file__)))
-# How many wrong bodies a lane tries in one copy of a crate, before it asks for the next ones.
-SHARE = 19
+# How many wrong bodies stand at once, and how many such lists a lane tries before it asks for the next ones.
+TOGETHER = 10
+SHARE = 2
+# A line with one of these words says more than what a function does.
+MORE_THAN_A_BODY = re.compile(r"\b(const|static|type|struct|enum|trait|impl|derive|ghost|requires|ensures|fn)\b|#\[")
 
 
 def crates_of(root):
@@ -119,18 +124,102 @@ def tried(folder, path):
     return refused is True, {True: "refused", False: "NOT REFUSED", None: "BAD EDIT: the prover did not see it"}[refused]
 
 
-def lane(base, crates, name, paths, is_first):
-    """Tries some wrong bodies of a crate, and says of each whether it was refused. The first share looks at the crate as it is before."""
+def body_at(text, at):
+    """The name of the function in whose body a place of a file in rt fmt's layout is, if it is in one."""
+    begins = [it for it in re.finditer(r"^( *)(?:pub(?:\(crate\))? )?fn (\w+)", text, re.M) if it.start() < at]
+    if not begins:
+        return None
+    lines = text[begins[-1].start() : at].split("\n")
+    is_begun = any(it.endswith("{") for it in lines[:-1])
+    return begins[-1][2] if is_begun and begins[-1][1] + "}" not in lines else None
+
+
+def place_of(folder, path):
+    """The module and the function whose body alone a wrong body changes, or None where it may change more."""
+    places, file = set(), ""
+    for line in open(path).read().splitlines():
+        word, _, rest = line.partition(": ")
+        if word == "file":
+            file = rest
+        elif word in ("old", "new") and MORE_THAN_A_BODY.search(rest):
+            return None
+        elif word == "old":
+            text = open(f"{folder}/{file}").read()
+            at = text.find(rest)
+            whole = text[text.rfind("\n", 0, at) + 1 : text.find("\n", at + len(rest))]
+            if at < 0 or not file.startswith("src/") or MORE_THAN_A_BODY.search(whole):
+                return None
+            places.add((os.path.basename(file).removesuffix(".rt"), body_at(text, at)))
+    return places.pop() if len(places) == 1 and all(name for _, name in places) else None
+
+
+def lists_of(folder, paths):
+    """The wrong bodies in lists of those that can stand at once. One that can't stand with others is a list of its own."""
+    waiting, lists = [(path, place_of(folder, path)) for path in paths], []
+    while waiting:
+        here, places, left = [], set(), []
+        for path, place in waiting:
+            is_here = not here or place is not None and None not in places and place not in places and len(here) < TOGETHER
+            (here if is_here else left).append((path, place))
+            places |= {place} if is_here else set()
+        lists.append([path for path, _ in here])
+        waiting = left
+    return lists
+
+
+def refused_functions(said):
+    """The functions that a check does not prove, by module and name, but for those of which it says only that they call such a one."""
+    found = set()
+    for module, path, why in re.findall(r"^fn \w+::(\w+)::(\S+): (not proved|no proof: .*)$", said, re.M):
+        if not re.fullmatch(r"no proof: it calls [^;]*, which (is|are) not proved", why):
+            found.add((module, path.split("::")[-1]))
+    return found
+
+
+def refused_at_once(folder, paths):
+    """Those of some wrong bodies, each in the body of another function, that the prover refuses where all of them stand at once."""
+    places = {path: place_of(folder, path) for path in paths}
+    files = sorted({file for path in paths for file in edited(folder, path) or {}})
+    kept = {file: (open(f"{folder}/{file}").read(), os.stat(f"{folder}/{file}")) for file in files}
+    for path in paths:
+        put(folder, {file: then for file, (_, then) in (edited(folder, path) or {}).items()})
+    found = refused_functions(looked_at(folder, *only(files)))
+    for file, (text, times) in kept.items():
+        put(folder, {file: text})
+        os.utime(f"{folder}/{file}", ns=(times.st_atime_ns, times.st_mtime_ns))
+    return [path for path in paths if places[path] in found]
+
+
+def all_at_once(folder, name, paths):
+    """Tries wrong bodies at once, and those that are left as long as some are refused so. Returns those that are to be tried alone."""
+    left = paths
+    while len(left) > 1:
+        began = time.time()
+        refused = refused_at_once(folder, left)
+        left = [path for path in left if path not in refused]
+        for path in refused:
+            print(f"{name}/{os.path.basename(path)}: refused with {len(refused) - 1} others ({time.time() - began:.0f} s)", flush=True)
+        if not refused:
+            break
+    return left
+
+
+def lane(base, crates, name, lists, is_first):
+    """Tries lists of wrong bodies of a crate, and says of each whether it was refused. The first share looks at the crate as it is before."""
     with tempfile.TemporaryDirectory(prefix="wrong-bodies-") as room:
         folder = f"{copy_of(base, f'{room}/copy', [*all_below(crates, name), name], name)}/crates/{name}"
-        if is_first and verdict(looked_at(folder, *only(edited(folder, paths[0])))) is not False:
+        modules = only(sorted({file for path in lists[0] for file in edited(folder, path) or {}}))
+        if is_first and verdict(looked_at(folder, *modules)) is not False:
             raise RuntimeError(f"{name} is not proved in a copy, so no wrong body of it is tried")
         ends = []
-        for path in paths:
-            began = time.time()
-            well, says = tried(folder, path)
-            print(f"{name}/{os.path.basename(path)}: {says} ({time.time() - began:.0f} s)", flush=True)
-            ends.append(well)
+        for paths in lists:
+            left = all_at_once(folder, name, paths)
+            ends += [True] * (len(paths) - len(left))
+            for path in left:
+                began = time.time()
+                well, says = tried(folder, path)
+                print(f"{name}/{os.path.basename(path)}: {says} ({time.time() - began:.0f} s)", flush=True)
+                ends.append(well)
         return ends
 
 
@@ -172,8 +261,9 @@ def give_all(shares, base, crates, given):
         if not given.kept and not is_proved(checked(f"{base}/crates/{name}", "--jobs", "2")):
             return f"{name} is not proved, so no wrong body of it is tried"
         paths = sorted(glob.glob(f"{ROOT}/crates/{name}/must-fail/*{given.only}*.edit"))
-        for at in range(0, len(paths) if name in (given.crates or crates) else 0, SHARE):
-            shares.put(base, crates, name, paths[at : at + SHARE], at == 0)
+        lists = lists_of(f"{base}/crates/{name}", paths) if name in (given.crates or crates) else []
+        for at in range(0, len(lists), SHARE):
+            shares.put(base, crates, name, lists[at : at + SHARE], at == 0)
     return None
 
 
