@@ -1,7 +1,7 @@
 # make demo       proves and builds the program, and shows it on the file service of examples/
 # make examples   compares what each example prints with what is stored beside it
 # make pictures   draws the examples; wants Graphviz
-# make test       the merge gate: rt ci, and beside it the wrong bodies; over two hours on four slow
+# make test       the merge gate: rt ci, and beside it the wrong bodies; about two hours on four slow
 #                 processors
 # make refusals   the memory tests with each request for memory refused in turn: seconds, once the
 #                 gate or rt test has built the tests
