@@ -1,5 +1,5 @@
 //! Rules carried out in turn, as they are read.
-ghost use Rattle.std.specs.Prelude.{◌≡◌, IfOk, OnErr};
+ghost use Rattle.std.specs.Prelude.{◌≡◌, ◌+◌, ◌≤◌, ◌∷◌, ◌++◌, [], IfOk, OnErr, codes, vec_len, vec_capacity};
 ghost use Rattle.tg_graph.specs.GraphOf.{graph_of};
 ghost use Rattle.tg_graph.specs.Rules.{rights_of};
 ghost use Rattle.tg_graph.specs.Sets.{IsNamed};
@@ -12,6 +12,16 @@ use tg_text::{LONGEST_NUMBER, LONGEST_REPLY, RuleLine, RuleSink, append_number, 
 // As many bytes as the line of a reply has at most, with its line feed.
 const LONGEST_REPLY_LINE: usize = LONGEST_NUMBER + LONGEST_REPLY + 2;
 
+// Appends the end of the line of an accepted rule, for which there is room.
+#[inline(always)]
+fn end_with_done(text: &mut Vec<u8>)
+    requires { vec_len text.old + 6 ≤ vec_capacity text.old }
+    ensures { text.new.items ≡ text.old.items ++ codes " done" ++ 10 ∷ [] }
+{
+    // There is room, so no memory is asked for.
+    let _ = text.extend_from_slice(b" done\n");
+}
+
 // Carries out a rule, and appends its reply. It answers whether the rule was accepted.
 fn play_rule(text: &mut Vec<u8>, graph: &mut Graph, rule: &RuleLine) -> Result<bool, AllocError>
     requires { IsNamed (rights_of rule.now.rule) }
@@ -23,16 +33,21 @@ fn play_rule(text: &mut Vec<u8>, graph: &mut Graph, rule: &RuleLine) -> Result<b
 {
     // With room for the whole line nothing fails once the graph has changed.
     text.reserve(LONGEST_REPLY_LINE)?;
-    let reply = match graph.apply(&rule.rule) {
-        Ok(()) => Reply::Done,
-        Err(RuleFault::Refused(refusal)) => Reply::Refused(refusal),
-        Err(RuleFault::Memory) => return Err(AllocError),
-    };
-    append_number(text, rule.line)?;
-    text.push_reserved(b' ');
-    append_reply(text, &reply)?;
-    text.push_reserved(b'\n');
-    Ok(reply == Reply::Done)
+    match graph.apply(&rule.rule) {
+        Ok(()) => {
+            append_number(text, rule.line)?;
+            end_with_done(text);
+            Ok(true)
+        }
+        Err(RuleFault::Refused(refusal)) => {
+            append_number(text, rule.line)?;
+            text.push_reserved(b' ');
+            append_reply(text, &Reply::Refused(refusal))?;
+            text.push_reserved(b'\n');
+            Ok(false)
+        }
+        Err(RuleFault::Memory) => Err(AllocError),
+    }
 }
 
 /// A graph to which rules are applied as they are read, up to the first that is refused, and the

@@ -1,10 +1,10 @@
 -- The first line of a text, and the first word of a line.
-use Rattle.std.proofs.Common.{◌≡◌, ◌∙◌, refl, ap, ℕ, zero, suc, ◌+◌, ◌-◌, ◌<◌, ◌≤◌, inl, inr, true, false, not, eqb, List, [], ◌∷◌, take, drop, length, get_or, arith}
+use Rattle.std.proofs.Common.{◌≡◌, refl, ap, ℕ, zero, suc, ◌+◌, ◌<◌, ◌≤◌, inl, inr, true, false, not, eqb, eq-eqb, List, [], ◌∷◌, take, drop, length, get_or, arith}
 use Rattle.std.specs.List.{onto_first}
 use Rattle.std.proofs.lemmas.Bool.{ne_eqb, not-true}
 use Rattle.std.proofs.lemmas.Bool.Decides.{leb_tells}
-use Rattle.std.proofs.lemmas.List.{drop_more, get_or-drop, get_or-take}
-use Rattle.tg_text.specs.Lines.{NoLineFeedBefore, lines_of, words_of, is_blank, begins_with_word}
+use Rattle.std.proofs.lemmas.List.{drop_more}
+use Rattle.tg_text.specs.Lines.{NoLineFeedBefore, is_line_feed, lines_of, words_of, is_blank, begins_with_word}
 
 -- a line ends at the first line feed
 pub line_at : (text : List ℕ) (i : ℕ) → NoLineFeedBefore text i → i < length text → get_or text i 0 ≡ 10 → lines_of text ≡ take i text ∷ lines_of (drop (suc i) text)
@@ -15,12 +15,13 @@ line_at (b ∷ bs) (suc i) others inside here =
     let rest = line_at bs i (λ k lt. others (suc k) (omega arith)) (omega arith) here in
     rw (other, rest) refl
 
--- where no line feed stands in front of a place, and none among so many bytes behind it, none stands in front of their end
-pub none_further : (text : List ℕ) (i n : ℕ) → NoLineFeedBefore text i → NoLineFeedBefore (take n (drop i text)) n → NoLineFeedBefore text (i + n)
+-- where no line feed stands in front of a place, and none from there up to another, none stands in front of that one
+pub none_further : (text : List ℕ) (i n : ℕ) → NoLineFeedBefore text i → ((k : ℕ) → i ≤ k → k < i + n → is_line_feed (get_or text k 0) ≡ false) → NoLineFeedBefore text (i + n)
 none_further text i n front back k inside here = elim (leb_tells i k) [
   | inl behind ↦
-      let place : i + (k - i) ≡ k = omega arith in
-      back (k - i) (omega arith) (get_or-take n (drop i text) (k - i) 0 (omega arith) ∙ get_or-drop i text (k - i) 0 ∙ ap (λ j. get_or text j 0) place ∙ here)
+      let is : is_line_feed (get_or text k 0) ≡ true = eq-eqb (get_or text k 0) 10 here in
+      let not_is = back k behind.1 inside in
+      absurd cc
   | inr before ↦ front k before.1 here
 ]
 

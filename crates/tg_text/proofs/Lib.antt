@@ -10,6 +10,7 @@ pub mod GraphKinds
 pub mod KindLaws
 pub mod KindTables
 pub mod LineCuts
+pub mod LineFeeds
 pub mod WordCuts
 pub mod NumberLaws
 pub mod Letters
@@ -24,7 +25,7 @@ pub mod GraphBack
 pub mod ScriptNumbers
 pub mod RulesBack
 pub mod SmallGraphs
-pub mod LikelyLines
+pub mod PlainEdges
 pub mod PlainRules
 pub mod RuleSinks
 pub mod Digits

@@ -17,7 +17,7 @@ use Rattle.tg_text.specs.RuleText.{words_with, rule_line, counted_item}
 use Rattle.tg_text.specs.Spelling.{spaced}
 use Rattle.tg_text.specs.Words.{Word, value_or}
 use Rattle.tg_text.proofs.PlainWords.{IsPlainWord, word_from_test, name_word, lines-spaced, line-is}
-use Rattle.tg_text.proofs.LikelyLines.{set_word}
+use Rattle.tg_text.proofs.PlainEdges.{set_word}
 use Rattle.tg_text.proofs.RuleBack.{words_with-read, length-more}
 
 plain-words : (rule : Rule) (letters : Word) → IsRule rule → IsPlainWord letters → AllByRecursion IsPlainWord (words_with rule letters)

@@ -1,5 +1,5 @@
 -- The lines of a text, and the words of a line.
-use Rattle.std.specs.Prelude.{◌≡◌, refl, ℕ, ◌<◌, Bool, true, false, ◌==◌, ◌||◌, not, List, [], ◌∷◌, get_or, codes, if◌then◌else◌}
+use Rattle.std.specs.Prelude.{◌≡◌, refl, ℕ, ◌<◌, ◌≤◌, Bool, true, false, ◌==◌, ◌||◌, not, List, [], ◌∷◌, get_or, length, codes, if◌then◌else◌}
 use Rattle.std.specs.List.{onto_first}
 
 -- what stands between line feeds; what follows the last one is a line if it is not empty
@@ -10,6 +10,14 @@ lines_of (b ∷ bs) = if b == 10 then [] ∷ lines_of bs else onto_first b (line
 -- no line feed stands in front of a place
 abbrev pub NoLineFeedBefore : List ℕ → ℕ → Type 0
 NoLineFeedBefore text place = (k : ℕ) → k < place → get_or text k 0 ≡ 10 → ⊥
+
+-- whether a byte ends a line
+abbrev pub is_line_feed : ℕ → Bool
+is_line_feed b = b == 10
+
+-- the place of the first line feed, or the end of a text that has none
+abbrev pub IsLineEnd : List ℕ → ℕ → Type 0
+IsLineEnd text place = (place ≤ length text) × NoLineFeedBefore text place × (place < length text → get_or text place 0 ≡ 10)
 
 -- a space, a tab or a carriage return
 abbrev pub is_blank : ℕ → Bool

@@ -72,9 +72,9 @@ fn graph_faults(rt: HostRuntime) {
     }
 }
 
-// In lines whose names are the likely ones: the source of the line before and the next vertex.
+// In lines whose words stand between single spaces, at the end of a text.
 #[test]
-fn faults_of_likely_lines(rt: HostRuntime) {
+fn faults_of_plain_lines(rt: HostRuntime) {
     let front = b"vertex a\nvertex b\nvertex c\nedge a a t\n";
     let rows: [(&[u8], usize, TextKind); 8] = [
         (b"edge a b a\n", 5, TextKind::BadRights),
@@ -99,6 +99,52 @@ fn faults_of_likely_lines(rt: HostRuntime) {
             let fault = read_graph(rt.alloc(), &text[..end]).err();
             assert!(rt; fault == Some(TextFault::At { line, kind }));
         }
+    }
+}
+
+// The same, where so many bytes follow that the end of the line is looked for among them all at once.
+#[test]
+fn faults_of_plain_lines_before_others(rt: HostRuntime) {
+    let rows: [(&[u8], usize, TextKind); 7] = [
+        (
+            b"vertex a\nedge a a x\n# some more words\n",
+            2,
+            TextKind::BadRights,
+        ),
+        (
+            b"vertex a\nedge a a -\n# some more words\n",
+            2,
+            TextKind::BadRights,
+        ),
+        (
+            b"vertex a\nedge a a tt\n# some more words\n",
+            2,
+            TextKind::BadRights,
+        ),
+        (
+            b"version 2\nvertex a\nedge a a tgrweadt\n# some more words\n",
+            3,
+            TextKind::BadRights,
+        ),
+        (
+            b"vertex a\nedge a a \n# some more words\n",
+            2,
+            TextKind::WordCount,
+        ),
+        (
+            b"vertex a\nedge a b r\n# some more words\n",
+            2,
+            TextKind::UnknownVertex,
+        ),
+        (
+            b"vertex a\nedge a a r\nedge a a w\n# some more words\n",
+            3,
+            TextKind::DuplicateEdge,
+        ),
+    ];
+    for (text, line, kind) in rows {
+        let fault = read_graph(rt.alloc(), text).err();
+        assert!(rt; fault == Some(TextFault::At { line, kind }));
     }
 }
 

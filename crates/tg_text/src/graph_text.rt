@@ -10,7 +10,7 @@ ghost use Rattle.tg_text.specs.Versions.{version_of};
 ghost use Rattle.tg_text.specs.GraphText.{GraphSoFar, version_item, vertex_item, edge_item, graph_item, graph_text, nothing_read, with_new_vertex, with_new_edge};
 
 use crate::faults::{LineFault, TextFault, TextKind};
-use crate::likely_names::LastSource;
+use crate::plain_lines::cut_edge;
 use crate::reading::{Items, read_lines};
 use crate::versions::{LAST_VERSION, Version};
 use crate::words::{edge_rights_at, header_number, name_at, one_word, three_words};
@@ -61,28 +61,22 @@ fn add_vertex_line(
 }
 
 #[tactic(auto, unfolding(crate::specs::GraphText::edge_item))]
-fn add_edge_line(
-    graph: &mut GraphBuilder,
-    last: &mut LastSource,
-    version: Version,
-    words: &[u8],
-) -> Result<(), LineFault>
+fn add_edge_line(graph: &mut GraphBuilder, version: Version, words: &[u8]) -> Result<(), LineFault>
     ensures { Makes (edge_item version (graph_built graph.old) (words_of words.now)) result
         (graph_built graph.new) }
 {
     let (source, target, letters) = three_words(words)?;
     let x = name_at(source)?;
     let y = name_at(target)?;
-    last.go_on(graph, x, y);
     let rights = edge_rights_at(version, letters)?;
     add_edge(graph, x, y, rights)?;
     Ok(())
 }
 
-// Adds the edge of a line with these names, and says whether it was added. An edge that is at fault
-// is not.
+// Adds the edge of a line with these names and letters, and says whether it was added. An edge that is
+// at fault is not.
 #[tactic(auto, unfolding(crate::specs::GraphText::edge_item))]
-fn add_likely_edge(
+fn add_plain_edge(
     graph: &mut GraphBuilder,
     version: Version,
     x: Name,
@@ -106,8 +100,6 @@ fn add_likely_edge(
 pub(crate) struct GraphItems {
     begun: Option<Version>,
     graph: GraphBuilder,
-    // It decides no answer.
-    last: LastSource,
 }
 
 // The version of a text that begins with this one.
@@ -149,7 +141,7 @@ impl Items for GraphItems {
             return Ok(());
         }
         if first == b"edge".as_slice() {
-            add_edge_line(&mut self.graph, &mut self.last, version, rest)?;
+            add_edge_line(&mut self.graph, version, rest)?;
             self.begun = Some(version);
             return Ok(());
         }
@@ -159,10 +151,10 @@ impl Items for GraphItems {
 
     fn add_likely<'a>(&mut self, _line: usize, text: &'a [u8]) -> Option<&'a [u8]> {
         let version = self.begun?;
-        let Some(line) = self.last.edge_line(&self.graph, text) else {
+        let Some(line) = cut_edge(text) else {
             return None;
         };
-        if add_likely_edge(&mut self.graph, version, line.0, line.1, line.2) {
+        if add_plain_edge(&mut self.graph, version, line.0, line.1, line.2) {
             Some(line.3)
         } else {
             None
@@ -178,7 +170,6 @@ impl GraphItems {
         GraphItems {
             begun: None,
             graph: GraphBuilder::over(alloc, Graph::new(alloc)),
-            last: LastSource::new(),
         }
     }
 }

@@ -9,7 +9,6 @@ mod fault_tests;
 mod faults;
 mod graph_text;
 pub mod laws;
-mod likely_names;
 mod limits;
 mod lines;
 #[cfg(test)]

@@ -1,40 +1,54 @@
 //! Lines and words.
-ghost use Rattle.std.specs.Prelude.{◌≡◌, ◌<◌, ◌≤◌, ◌∷◌, ◌++◌, [], nat_lt, true, false, take, drop, length, MatchOption, IfSome};
-ghost use Rattle.tg_text.specs.Lines.{NoLineFeedBefore, lines_of, words_of, is_blank, begins_with_word, begins_with_hash};
+ghost use Rattle.std.specs.Prelude.{◌≡◌, ◌<◌, ◌≤◌, ◌∷◌, ◌++◌, [], nat_lt, true, take, drop, length, map, MatchOption, IfSome};
+ghost use Rattle.std.specs.Simd.Lanes.{mask_l};
+ghost use Rattle.tg_text.specs.Lines.{NoLineFeedBefore, IsLineEnd, is_line_feed, lines_of, words_of, is_blank, begins_with_word, begins_with_hash};
 ghost use Rattle.tg_text.specs.Reading.{Sees, content_of};
 ghost use Rattle.std.specs.Option.{option_map};
 
 use crate::faults::TextKind;
 use crate::limits::MOST_LINE_BYTES;
+use std::simd::prelude::*;
 
-// As many bytes as are looked at together for a line feed.
-const BLOCK: usize = 16;
+/// As many bytes as are looked at together for a line feed.
+pub(crate) const BLOCK: usize = 16;
 
-// Whether one of the bytes is a line feed. The loop goes on behind one, so that it is compiled to
-// few steps for many bytes.
-fn has_line_feed(bytes: &[u8]) -> bool
-    ensures { result ≡ false → NoLineFeedBefore bytes.now (length bytes.now) }
+/// A bit for each of the bytes, the first the lowest, which is set where the byte is a line feed.
+#[inline(always)]
+pub(crate) fn line_feeds(bytes: u8x16) -> u64
+    ensures { result ≡ mask_l (map is_line_feed bytes) }
 {
-    let mut found = false;
-    for i in 0..bytes.len() {
-        found |= bytes[i] == b'\n';
-    }
-    found
+    bytes.simd_eq(u8x16::splat(b'\n')).to_bitmask()
 }
 
-// How many bytes the blocks at the front have that have no line feed.
-fn blocks_without_line_feed(text: &[u8]) -> usize
-    ensures within { result ≤ length text.now }
-    ensures none { NoLineFeedBefore text.now result }
+// Where the first line feed behind so many bytes is, which have none; the length of the text where
+// there is none. The bytes are looked at one by one.
+fn line_end_near(text: &[u8], clear: usize) -> usize
+    requires within { clear ≤ length text.now }
+    requires clear { NoLineFeedBefore text.now clear }
+    ensures { IsLineEnd text.now result }
+{
+    for i in clear..text.len() {
+        if text[i] == b'\n' {
+            return i;
+        }
+    }
+    text.len()
+}
+
+// Where the first line feed is, or the length of the text where there is none. Blocks of bytes are
+// looked at at once.
+fn line_end(text: &[u8]) -> usize
+    ensures { IsLineEnd text.now result }
 {
     let mut clear = 0;
     while text.len() - clear >= BLOCK {
-        if has_line_feed(&text[clear..clear + BLOCK]) {
-            break;
+        let found = line_feeds(u8x16::from_slice(&text[clear..]));
+        if found != 0 {
+            return clear + found.trailing_zeros() as usize;
         }
         clear += BLOCK;
     }
-    clear
+    line_end_near(text, clear)
 }
 
 /// The first line of a text without its line feed, and what stands behind it.
@@ -47,12 +61,11 @@ pub fn cut_line(text: &[u8]) -> (&[u8], &[u8])
     ensures joined { 0 < length result.1.now → text.now ≡ result.0.now ++ 10 ∷ result.1.now }
     ensures shorter { length result.1.now < length text.now }
 {
-    for i in blocks_without_line_feed(text)..text.len() {
-        if text[i] == b'\n' {
-            return (&text[..i], &text[i + 1..]);
-        }
+    let end = line_end(text);
+    if end == text.len() {
+        return (text, &[]);
     }
-    (text, &[])
+    (&text[..end], &text[end + 1..])
 }
 
 fn is_blank(byte: u8) -> bool

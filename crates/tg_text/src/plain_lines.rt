@@ -1,21 +1,25 @@
 //! Lines whose words stand between single spaces, as they mostly do: read from the front of a text in
 //! one pass, before the end of the line is looked for.
-ghost use Rattle.std.specs.Prelude.{◌≡◌, ◌≤◌, ◌∷◌, ◌++◌, [], Some, IfSome, codes, length};
+ghost use Rattle.std.specs.Prelude.{◌≡◌, ◌<◌, ◌≤◌, ◌∷◌, ◌++◌, [], Some, IfSome, codes, length};
 ghost use Rattle.tg_graph.specs.Letters.{set_of_letters};
 ghost use Rattle.tg_graph.specs.Names.{IsName};
 ghost use Rattle.tg_graph.specs.Rules.{rights_of};
 ghost use Rattle.tg_graph.specs.RuleWords.{IsRule};
 ghost use Rattle.tg_text.specs.Canonical.{line_of};
+ghost use Rattle.tg_text.specs.Lines.{IsLineEnd};
 ghost use Rattle.tg_text.specs.RuleText.{words_with};
 
+use crate::lines::{BLOCK, line_feeds};
+use crate::spelling::MOST_LETTERS;
+use std::simd::prelude::*;
 use tg_graph::{Name, Rights, Rule};
 
-// As many letters as a label has at most.
-const MOST_LETTERS: usize = 7;
+// As many bits as there are for the bytes of a block. None is set where there is no line feed.
+const NO_LINE_FEED: usize = 64;
 
-/// What stands behind the word `edge` and a space, where they stand at the front.
+// What stands behind the word `edge` and a space, where they stand at the front.
 #[inline(always)]
-pub(crate) fn behind_edge(bytes: &[u8]) -> Option<&[u8]>
+fn behind_edge(bytes: &[u8]) -> Option<&[u8]>
     ensures { IfSome result (λ rest. bytes.now ≡ codes "edge" ++ 32 ∷ rest.now) }
 {
     match bytes {
@@ -24,9 +28,35 @@ pub(crate) fn behind_edge(bytes: &[u8]) -> Option<&[u8]>
     }
 }
 
-/// The bytes up to a line feed and those behind it, where there are as few as a label may have.
+// How many bytes stand in front of the first line feed, where that is among the first `BLOCK` bytes, all
+// of which are looked at at once; else `NO_LINE_FEED`.
 #[inline(always)]
-pub(crate) fn cut_letters(bytes: &[u8]) -> Option<(&[u8], &[u8])>
+fn line_end_in_block(bytes: &[u8]) -> usize
+    requires { BLOCK ≤ length bytes.now }
+    ensures { result < NO_LINE_FEED → IsLineEnd bytes.now result × (result < length bytes.now) }
+{
+    line_feeds(u8x16::from_slice(bytes)).trailing_zeros() as usize
+}
+
+// The bytes up to a line feed and those behind it, where there are as few as a label may have.
+#[inline(always)]
+fn cut_letters(bytes: &[u8]) -> Option<(&[u8], &[u8])>
+    ensures bytes { IfSome result (λ cut. bytes.now ≡ cut.0.now ++ 10 ∷ cut.1.now) }
+    ensures few { IfSome result (λ cut. length cut.0.now ≤ 7) }
+{
+    if bytes.len() < BLOCK {
+        return cut_last_letters(bytes);
+    }
+    let end = line_end_in_block(bytes);
+    if end > MOST_LETTERS {
+        return None;
+    }
+    Some((&bytes[..end], &bytes[end + 1..]))
+}
+
+// The same of the last bytes of a text.
+#[inline(never)]
+fn cut_last_letters(bytes: &[u8]) -> Option<(&[u8], &[u8])>
     ensures bytes { IfSome result (λ cut. bytes.now ≡ cut.0.now ++ 10 ∷ cut.1.now) }
     ensures few { IfSome result (λ cut. length cut.0.now ≤ 7) }
 {
@@ -53,9 +83,9 @@ fn cut_name(bytes: &[u8]) -> Option<(Name, &[u8])>
     }
 }
 
-/// Two names and letters that end a line, and what stands behind the line.
+// Two names and letters that end a line, and what stands behind the line.
 #[inline(always)]
-pub(crate) fn two_names(bytes: &[u8]) -> Option<(Name, Name, &[u8], &[u8])>
+fn two_names(bytes: &[u8]) -> Option<(Name, Name, &[u8], &[u8])>
     ensures line { IfSome result
         (λ found. bytes.now ≡ line_of (found.0 ∷ found.1 ∷ found.2.now ∷ []) ++ found.3.now) }
     ensures names { IfSome result (λ found. IsName found.0 × IsName found.1) }
@@ -69,6 +99,22 @@ pub(crate) fn two_names(bytes: &[u8]) -> Option<(Name, Name, &[u8], &[u8])>
     };
     let cut = cut_letters(second.1)?;
     Some((first.0, second.0, cut.0, cut.1))
+}
+
+/// Source, target and letters of the edge that the first line of a text writes, and what stands behind
+/// the line.
+#[inline(always)]
+pub(crate) fn cut_edge(text: &[u8]) -> Option<(Name, Name, &[u8], &[u8])>
+    ensures line { IfSome result
+        (λ found. text.now ≡ line_of (codes "edge" ∷ found.0 ∷ found.1 ∷ found.2.now ∷ []) ++ found.3.now) }
+    ensures names { IfSome result (λ found. IsName found.0 × IsName found.1) }
+    ensures few { IfSome result (λ found. length found.2.now ≤ 7) }
+{
+    let bytes = behind_edge(text)?;
+    let Some(found) = two_names(bytes) else {
+        return None;
+    };
+    Some(found)
 }
 
 // Three names and letters that end a line, and what stands behind the line.

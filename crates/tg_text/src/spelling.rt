@@ -1,9 +1,10 @@
 //! Rules, replies and numbers as text.
-ghost use Rattle.std.specs.Prelude.{◌≡◌, ◌+◌, ◌/◌, ◌%◌, ◌≤◌, ◌<◌, ◌++◌, ◌∷◌, [], IfOk, OnOk, OnErr, length, vec_len, vec_capacity};
+ghost use Rattle.std.specs.Prelude.{◌≡◌, ◌+◌, ◌/◌, ◌%◌, ◌≤◌, ◌<◌, ◌++◌, ◌∷◌, [], IfOk, IfSome, OnOk, OnErr, length, vec_len, vec_capacity};
 ghost use Rattle.std.specs.Fmt.{decimal};
 ghost use Rattle.tg_text.specs.Spelling.{rule_text, reply_text, refusal_words, rights_text, spaced};
 ghost use Rattle.tg_graph.specs.Letters.{letters_among};
 
+use bitflags::Flags;
 use std::alloc::{AllocError, Global};
 use tg_graph::{Name, Refusal, Reply, Right, Rights, Rule};
 
@@ -19,8 +20,11 @@ pub const LONGEST_NUMBER: usize = 20;
 // As many bytes as a name has at most, with the space before it.
 const LONGEST_NAME: usize = 17;
 
+/// As many letters as a set of rights has at most.
+pub(crate) const MOST_LETTERS: usize = 7;
+
 // As many bytes as a set of rights has at most, with the space before it.
-const LONGEST_RIGHTS: usize = 8;
+const LONGEST_RIGHTS: usize = 1 + MOST_LETTERS;
 
 // As many bytes as the words of a refusal have at most, with the space before them.
 const LONGEST_REFUSAL: usize = 25;
@@ -48,6 +52,20 @@ pub(crate) fn put_name(text: &mut Vec<u8>, name: Name)
     put(text, name.as_bytes());
 }
 
+// The letter of the one right of a set, where there is one alone. Which right is looked at decides no
+// answer.
+#[inline(always)]
+fn only_letter(set: Rights) -> Option<u8>
+    ensures { IfSome result (λ letter. rights_text set ≡ letter ∷ []) }
+{
+    let right = *Right::ALL.get(set.bits().trailing_zeros() as usize)?;
+    if Rights::of(right) == set {
+        Some(right.letter())
+    } else {
+        None
+    }
+}
+
 // Appends the letters of those of the rights that are in the set.
 fn put_letters(text: &mut Vec<u8>, set: Rights, rights: &[Right])
     requires { vec_len text.old + length rights.now ≤ vec_capacity text.old }
@@ -62,7 +80,23 @@ fn put_letters(text: &mut Vec<u8>, set: Rights, rights: &[Right])
     }
 }
 
+// Appends the letters of a set of rights, or `-` for none.
+#[inline(never)]
+fn put_letters_or_dash(text: &mut Vec<u8>, rights: Rights)
+    requires { vec_len text.old + MOST_LETTERS ≤ vec_capacity text.old }
+    ensures items { text.new.items ≡ text.old.items ++ rights_text rights }
+    ensures len { vec_len text.new ≤ vec_len text.old + MOST_LETTERS }
+    ensures capacity { vec_capacity text.old ≤ vec_capacity text.new }
+{
+    let start = text.len();
+    put_letters(text, rights, &Right::ALL);
+    if text.len() == start {
+        text.push_reserved(b'-');
+    }
+}
+
 // Appends a space and the letters of a set of rights.
+#[inline(always)]
 pub(crate) fn put_rights(text: &mut Vec<u8>, rights: Rights)
     requires { vec_len text.old + LONGEST_RIGHTS ≤ vec_capacity text.old }
     ensures items { text.new.items ≡ text.old.items ++ 32 ∷ rights_text rights }
@@ -70,10 +104,9 @@ pub(crate) fn put_rights(text: &mut Vec<u8>, rights: Rights)
     ensures capacity { vec_capacity text.old ≤ vec_capacity text.new }
 {
     text.push_reserved(b' ');
-    let start = text.len();
-    put_letters(text, rights, &Right::ALL);
-    if text.len() == start {
-        text.push_reserved(b'-');
+    match only_letter(rights) {
+        Some(letter) => text.push_reserved(letter),
+        None => put_letters_or_dash(text, rights),
     }
 }
 

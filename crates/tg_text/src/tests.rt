@@ -20,6 +20,17 @@ fn a_line_and_its_words(rt: HostRuntime) {
     assert!(rt; cut_word(b"\t \r").is_none());
 }
 
+// A line whose end is not among the sixteen bytes that are looked at first, and one without an end.
+#[test]
+fn lines_of_many_bytes(rt: HostRuntime) {
+    let (line, rest) = cut_line(b"# a line of more than thirty-two bytes\n\nx");
+    assert!(rt; line == b"# a line of more than thirty-two bytes".as_slice());
+    assert!(rt; rest == b"\nx".as_slice());
+    let (line, rest) = cut_line(b"# a line without an end");
+    assert!(rt; line == b"# a line without an end".as_slice());
+    assert!(rt; rest.is_empty());
+}
+
 // A vertical tab, a form feed and a NUL cut neither words nor lines.
 #[test]
 fn other_bytes_cut_nothing(rt: HostRuntime) {

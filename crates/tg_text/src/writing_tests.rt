@@ -94,7 +94,7 @@ fn rules_without_rights(rt: HostRuntime) -> Result<(), Fail> {
 // The version stands in front exactly where version 1 can't have the graph.
 #[test]
 fn canonical_texts(rt: HostRuntime) -> Result<(), Fail> {
-    let rows: [(&[u8], &[u8]); 6] = [
+    let rows: [(&[u8], &[u8]); 7] = [
         (
             b"vertex b\nvertex a\nedge b a gt\nedge a b ewrgt\n",
             b"vertex a\nvertex b\nedge a b tgrwe\nedge b a tg\n",
@@ -102,6 +102,10 @@ fn canonical_texts(rt: HostRuntime) -> Result<(), Fail> {
         (
             b"version 2\nvertex a\nvertex b\nvertex c\nedge a b t\nedge b c da\n",
             b"version 2\nvertex a\nvertex b\nvertex c\nedge a b t\nedge b c ad\n",
+        ),
+        (
+            b"version 2\nvertex a\nedge a a daewrgt\n# some more words\n",
+            b"version 2\nvertex a\nedge a a tgrwead\n",
         ),
         (
             b"# x\n\n version\t2\r\nvertex a\nedge a a daewrgt",

@@ -1,11 +1,16 @@
-use Rattle.std.proofs.Common.{◌+◌, add-one, arith}
+use Rattle.std.proofs.Common.{◌+◌, subst, add-one, arith}
 use Rattle.std.proofs.lemmas.List.{take_rest}
+use Rattle.tg_text.specs.Lines.{NoLineFeedBefore}
 use Rattle.tg_text.proofs.Cuts.{line_at, one_line}
 use Rattle.tg_text.proofs.lines.cut_line.Goals as goal
 
-pub returns-then-text-i-eq10-clause-cut : goal.returns-then-text-i-eq10-clause-cut
-returns-then-text-i-eq10-clause-cut c =
-    rw (take_rest c.args.text.now (c.loop-i.i + 1), add-one) (line_at c.args.text.now c.loop-i.i c.loop-i.invariant c.loop-i-test.true c.if-text-i-eq10.true)
+pub returns-then-end-text-clause-cut : goal.returns-then-end-text-clause-cut
+returns-then-end-text-clause-cut c =
+    let text = c.args.text.now in
+    one_line text (subst (NoLineFeedBefore text) c.if-end-text.true c.line_end-end.ensures.1) c.requires
 
 pub returns-clause-cut : goal.returns-clause-cut
-returns-clause-cut c = one_line c.args.text.now (λ k lt. c.loop-i.invariant k (omega arith)) c.requires
+returns-clause-cut c =
+    let text = c.args.text.now in
+    let end = c.line_end-end.result in
+    rw (take_rest text (end + 1), add-one) (line_at text end c.line_end-end.ensures.1 (omega arith) (c.line_end-end.ensures.2 (omega arith)))

@@ -82,8 +82,8 @@ module _ (version : Version) (g h : ProtectionGraph) (x y : Name) (letters : Wor
   unfolding graph_item
   item-made = ap (λ r. r >>= λ g. Ok (Some version, g)) made
 
-  pub likely_first : (text rest : List ℕ) → text ≡ line_of words ++ rest → MakesFirst graph_item (Some version, g) text (Some version, h) rest
-  likely_first text rest e = record {
+  pub plain_edge_first : (text rest : List ℕ) → text ≡ line_of words ++ rest → MakesFirst graph_item (Some version, g) text (Some version, h) rest
+  plain_edge_first text rest e = record {
     line = spaced words;
     cut = ap lines_of e ∙ lines-spaced words rest plain_words;
     shorter = omega (arith, ap length e, length-append (line_of words) rest, length-append (spaced words) (10 ∷ []));

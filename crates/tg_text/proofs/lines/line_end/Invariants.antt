@@ -1,6 +1,6 @@
 use Rattle.std.proofs.Common.{◌≤◌, ◌-◌, length}
 use Rattle.tg_text.specs.Lines.{NoLineFeedBefore}
-use Rattle.tg_text.proofs.lines.blocks_without_line_feed.Given as goal
+use Rattle.tg_text.proofs.lines.line_end.Given as goal
 
 abbrev pub invariant-loop-clear : goal.invariant-loop-clear
 invariant-loop-clear l = (l.clear ≤ length l.text) × NoLineFeedBefore l.text l.clear
