@@ -1,8 +1,9 @@
 # make demo       proves and builds the program, and shows it on the file service of examples/
 # make examples   compares what each example prints with what is stored beside it
 # make pictures   draws the examples; wants Graphviz
-# make test       the merge gate: rt ci, and beside it the wrong bodies; about two hours on four slow
-#                 processors
+# make test       the merge gate, rt ci: under two hours on four slow processors from nothing, minutes
+#                 where the machine has kept what it proved
+# make bodies     the wrong bodies alone, ten at once
 # make refusals   the memory tests with each request for memory refused in turn: seconds, once the
 #                 gate or rt test has built the tests
 # make man        the manual page
@@ -23,7 +24,7 @@ TILLS_APART = python3 $(TILLS).py --apart
 OPEN_KERNEL = echo 'edge nic_driver log_server g' | cat $(KERNEL).graph -
 LESS_OF_CLUSTER = $(foreach kind,groups secrets pods services events,--without '$(kind) *')
 
-.PHONY: build demo examples pictures test refusals man bench races hostile fuzz
+.PHONY: build demo examples pictures test bodies refusals man bench races hostile fuzz
 
 build:
 	@echo "Proving and building officer and the crates below it: about half an hour on four slow processors from nothing, seconds after that."
@@ -98,7 +99,10 @@ pictures: build
 	@echo "The pictures are in $(PICTURES)."
 
 test:
-	@checks/gate
+	@rt ci
+
+bodies:
+	@python3 checks/wrong_bodies.py
 
 refusals:
 	@python3 checks/refusals.py

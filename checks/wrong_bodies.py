@@ -3,10 +3,10 @@
 
 wrong_bodies.py [--lanes N] [--kept FOLDER] [--only WORD] [CRATE ..]
 
-`rt ci` tries them too, but those of a crate one after another, each with the whole crate. Here ten stand at once, each
-in the body of another function, and the prover looks at their modules: what the proof of a function reads is its own
-body and the contracts of others, so none is refused for another's sake. A wrong body whose function is not refused so
-is tried alone, with the module that it changes, and where that one is proved with the whole crate.
+`rt ci` tries each by itself, with the whole crate. Here ten stand at once, each in the body of another function, and
+the prover looks at their modules: what the proof of a function reads is its own body and the contracts of others, so
+none is refused for another's sake. A wrong body whose function is not refused so is tried alone, with the module that
+it changes, and where that one is proved with the whole crate.
 First each crate is checked whole, in a copy of the repository; then each lane tries wrong bodies in a copy of its own.
 Where --kept names a copy in which that was done, it is taken as it is. --only WORD tries those whose names have it.
 The last line is 'N refused, M not'.
