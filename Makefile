@@ -1,8 +1,8 @@
 # make demo       proves and builds the program, and shows it on the file service of examples/
 # make examples   compares what each example prints with what is stored beside it
 # make pictures   draws the examples; wants Graphviz
-# make test       the merge gate, rt ci: under two hours on four slow processors from nothing, minutes
-#                 where the machine has kept what it proved
+# make test       the merge gate, rt ci: over two hours on four processors from nothing; minutes where a
+#                 toolchain keeps on its machine what it proved
 # make bodies     the wrong bodies alone, ten at once
 # make refusals   the memory tests with each request for memory refused in turn: seconds, once the
 #                 gate or rt test has built the tests
@@ -23,6 +23,10 @@ PICTURES = examples/pictures
 TILLS_APART = python3 $(TILLS).py --apart
 OPEN_KERNEL = echo 'edge nic_driver log_server g' | cat $(KERNEL).graph -
 LESS_OF_CLUSTER = $(foreach kind,groups secrets pods services events,--without '$(kind) *')
+
+# How many checks the gate runs side by side: one for each processor and each 5 GB of memory, which is the
+# most that one takes. Left to itself, rt ci reckons with up to 9 GB for one, and leaves processors idle.
+RT_JOBS ?= $(shell awk -v most=$$(nproc) '/^MemTotal/ { n = int($$2 / 5e6); print n < 1 ? 1 : n < most ? n : most }' /proc/meminfo)
 
 .PHONY: build demo examples pictures test bodies refusals man bench races hostile fuzz
 
@@ -99,7 +103,7 @@ pictures: build
 	@echo "The pictures are in $(PICTURES)."
 
 test:
-	@rt ci
+	@RT_JOBS=$(RT_JOBS) rt ci
 
 bodies:
 	@python3 checks/wrong_bodies.py
