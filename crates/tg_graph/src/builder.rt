@@ -90,12 +90,6 @@ impl GraphBuilder {
         self.graph.knows(name)
     }
 
-    /// The target that the next edge has where a text has them in the order of the vertices. It
-    /// decides no answer.
-    pub fn next_target(&self) -> Option<Name> {
-        self.graph.name_at(self.next)
-    }
-
     /// Adds a vertex with no edges, as the last.
     pub fn add_vertex(&mut self, n: Name) -> Result<(), VertexFault>
         ensures added { AddsVertex (graph_built self.old) n result (graph_built self.new) }

@@ -127,7 +127,6 @@ fn refuses_what_is_there(rt: &impl Abort, builder: &mut GraphBuilder) {
         Name::helper(COUNT),
     );
     let last = Name::helper(COUNT - 1);
-    assert!(rt; builder.next_target() == Some(last));
     refuses_edges_there(rt, builder, x, y);
     refuses_edge(rt, builder, (x, last), b"-", EdgeFault::Empty);
     refuses_unknown(rt, builder, x, z);
