@@ -1,9 +1,13 @@
 #!/usr/bin/env python3
 """Times the program on heavy inputs that it makes itself, and prints seconds and peak memory for each command.
 
-bench.py PROGRAM [--only WORD] [--rounds N]. A time is the best of the rounds. Run it before and after a change.
-Each workload comes twice, on graphs of 1,024 and of 4,096 vertices, the second time with how many times as long it
-took, and for how many times as much. A time of a few milliseconds says little.
+bench.py PROGRAM [--beside OTHER] [--only WORD] [--rounds N]. A time is the best of the rounds. Each workload comes
+twice, on graphs of 1,024 and of 4,096 vertices, the second time with how many times as long it took, and for how many
+times as much. A time of a few milliseconds says little.
+
+With --beside another program, as one built before a change, has its turns in the same rounds, in random order, since
+the pace of a machine changes from one minute to the next. Its figures follow, with the first program's time in units
+of its own, and a word where the two print something else.
 """
 import argparse
 import ctypes
@@ -85,6 +89,14 @@ def sparse(count, edges, seed=11):
     return vertices(count) + "".join(f"edge v{i} v{j} {chance.choice(rights)}\n" for i, j in sorted(pairs))
 
 
+def commented(graph, size):
+    """The same graph, before each of its lines so many comments and blank lines that the text has some such size."""
+    lines = graph.splitlines(True)
+    filler = "#" + 24 * " comment" + "\n\n"
+    before = filler * ((size - len(graph)) // (len(filler) * len(lines)))
+    return "".join(before + line for line in lines)
+
+
 def chain(count, right, held="r"):
     """Each vertex has the right over the next one, and the last but one holds what is asked for over the last."""
     links = "".join(f"edge v{i} v{i + 1} {right}\n" for i in range(count - 2))
@@ -137,6 +149,8 @@ def workloads(count):
     yield "check of names that share 15 bytes", MANY, "edges", with_names(edges, full), None, ["check"]
     few = with_names(sparse(count, 4 * count), full)
     yield "check of few edges and such names", 4 * count, "edges", few, None, ["check"]
+    talk = commented(sparse(count, 4 * count), 20_000_000)
+    yield "check of comments", 20, "MB", talk, None, ["check"]
     collided = with_names(edges, colliding(count))
     yield "check of names that collide", MANY, "edges", collided, None, ["check"]
     yield "the same in random order", MANY, "edges", shuffled(collided), None, ["check"]
@@ -174,8 +188,14 @@ def measured(argv, given):
     return time.perf_counter() - begun, os.waitstatus_to_exitcode(status), used.ru_maxrss / 1024
 
 
-def time_of(program, rounds, first, second, words):
-    """The best time of a run, its status, and its peak memory."""
+def output(argv, given):
+    with open(given) as text:
+        run = subprocess.run(argv, stdin=text, stdout=subprocess.PIPE, stderr=subprocess.DEVNULL)
+    return run.stdout, run.returncode
+
+
+def runs_of(programs, rounds, first, second, words):
+    """Of each program the runs on these inputs, in turns of random order, and whether all print the same."""
     with tempfile.TemporaryDirectory() as folder:
         paths = []
         for name, text in (("first", first), ("second", second)):
@@ -183,30 +203,43 @@ def time_of(program, rounds, first, second, words):
                 paths.append(os.path.join(folder, name))
                 with open(paths[-1], "w") as out:
                     out.write(text)
-        argv = [program] + (words[:1] + paths + words[1:] if words else [])
-        runs = [measured(argv, os.devnull if words else paths[0]) for _ in range(rounds)]
+        rest, given = (words[:1] + paths + words[1:], os.devnull) if words else ([], paths[0])
+        is_same = len(programs) == 1 or len({output([it] + rest, given) for it in programs}) == 1
+        runs = [[] for _ in programs]
+        for _ in range(rounds):
+            for place in random.sample(range(len(programs)), len(programs)):
+                runs[place].append(measured([programs[place]] + rest, given))
+        return runs, is_same
+
+
+def figures(runs):
+    """The best time of some runs, their status, and their peak memory."""
     return min(run[0] for run in runs), runs[0][1], max(run[2] for run in runs)
 
 
 def main():
     options = argparse.ArgumentParser(description=__doc__)
     options.add_argument("program")
+    options.add_argument("--beside")
     options.add_argument("--only", default="")
     options.add_argument("--rounds", type=int, default=3)
     given = options.parse_args()
-    program = os.path.abspath(given.program)
+    programs = [os.path.abspath(it) for it in (given.program, given.beside) if it]
     ctypes.CDLL(None).prctl(ADOPT_ORPHANS, 1)
     for sizes in zip(*map(workloads, SIZES)):
         base = None
         for count, (title, amount, unit, *run) in zip(SIZES, sizes):
             if given.only not in title:
                 continue
-            seconds, status, memory = time_of(program, given.rounds, *run)
+            runs, is_same = runs_of(programs, given.rounds, *run)
+            seconds, status, memory = figures(runs[0])
             what = f"{title}, {count:,} vertices, {amount:,} {unit}"
             line = f"{what:<68} {seconds:8.3f} s {memory:8.1f} MiB  status {status}"
             if base:
                 line += f"; {seconds / base[0]:.1f} times as long for {amount / base[1]:.0f} times as many {unit}"
-            print(line, flush=True)
+            for other in map(figures, runs[1:]):
+                line += f"; beside {other[0]:.3f} s {other[2]:.1f} MiB, {seconds / other[0]:.2f} of its time"
+            print(line if is_same else line + "; THEY PRINT SOMETHING ELSE", flush=True)
             base = base or (seconds, amount)
 
 
