@@ -25,7 +25,7 @@ OPEN_KERNEL = echo 'edge nic_driver log_server g' | cat $(KERNEL).graph -
 LESS_OF_CLUSTER = $(foreach kind,groups secrets pods services events,--without '$(kind) *')
 
 # How many checks the gate runs side by side: one for each processor and each 5 GB of memory, which is the
-# most that one takes. Left to itself, rt ci reckons with up to 9 GB for one, and leaves processors idle.
+# most that one was seen to take. Left to itself, rt ci reckons with up to 9.5 GB, and leaves processors idle.
 RT_JOBS ?= $(shell awk -v most=$$(nproc) '/^MemTotal/ { n = int($$2 / 5e6); print n < 1 ? 1 : n < most ? n : most }' /proc/meminfo)
 
 .PHONY: build demo examples pictures test bodies refusals man bench races hostile fuzz
