@@ -1,9 +1,10 @@
 -- Lists of edges whose targets are numbers.
-use Rattle.std.proofs.Common.{◌≡◌, ℕ, zero, suc, ◌<◌, ◌≤◌, ◌+◌, List, [], ◌∷◌, length, get_or, set, take, Some, slice_get, Option, None, Bor, sym, ap, ◌∙◌, arith, add-one, refl}
-use Rattle.std.specs.List.{insert, remove, AllByRecursion}
+use Rattle.std.proofs.Common.{◌≡◌, ℕ, zero, suc, ◌<◌, ◌≤◌, ◌+◌, ◌-◌, List, [], ◌∷◌, ◌++◌, length, get_or, set, take, drop, Some, slice_get, Option, None, Bor, sym, ap, ◌∙◌, arith, add-one, refl}
+use Rattle.std.specs.List.{insert, remove, copy_within, AllByRecursion}
 use Rattle.std.specs.Option.{option_map}
 use Rattle.std.specs.Slice.{IsGetResult}
-use Rattle.std.proofs.lemmas.List.{get_or_append_left, length-append}
+use Rattle.std.proofs.lemmas.List.{get_or_append_left, length-append, length-take-le, length-drop, take-append-le, drop-append-le, drop_all, append-nil, append_assoc}
+use Rattle.std.proofs.Math.Seq.{take-suc, take-append_seam, set-append_seam}
 use Rattle.std.proofs.lemmas.Option.{get_or_from_slice_get, slice_get_within, slice_get_past, slice_get-get_or}
 use Rattle.tg_graph.specs.declared.right_sets.Rights.{Rights}
 use Rattle.tg_graph.specs.declared.listed_edges.Edge.{Edge}
@@ -14,6 +15,23 @@ use Rattle.tg_graph.specs.EdgeLists.{number_of, label_on, named, edges_of, AreWi
 pub read_by_get : {X : Type 0} (xs : List X) (i : ℕ) (r : Option (Bor X)) → IsGetResult xs i i r → option_map (λ (x : Bor X). x.now) r ≡ slice_get xs i
 read_by_get xs i None h = sym (slice_get_past xs i h.3)
 read_by_get xs i (Some x) h = ap Some h.1 ∙ sym (slice_get-get_or xs i x.now h.3.0)
+
+-- an item is put in: behind the others first, then those behind its place move on by one
+pub inserted : {X : Type 0} (xs : List X) (i : ℕ) (x : X) → i ≤ length xs → set (copy_within (xs ++ x ∷ []) i (length xs) (i + 1)) i x ≡ insert xs i x
+inserted xs i x h =
+    let all = xs ++ x ∷ [] in
+    let front = take i xs in
+    let back = drop i xs in
+    let z = get_or all i x in
+    let whole : length all ≡ length xs + 1 = length-append xs (x ∷ []) in
+    let at : length front ≡ i = length-take-le i xs h in
+    let kept : take (i + 1) all ≡ front ++ z ∷ [] = ap (λ k. take k all) (add-one i) ∙ take-suc all i x (omega (arith, whole, h)) ∙ ap (λ l. l ++ z ∷ []) (take-append-le i xs (x ∷ []) h) in
+    let moved : take (length xs - i) (drop i all) ≡ back =
+    (λ j. take (sym (length-drop i xs) j) (drop-append-le i xs (x ∷ []) h j)) ∙ take-append_seam back (x ∷ []) in
+    let none : drop ((i + 1) + (length xs - i)) all ≡ [] = drop_all ((i + 1) + (length xs - i)) all (omega (arith, whole, h)) in
+    let copied : copy_within all i (length xs) (i + 1) ≡ front ++ z ∷ back =
+    (λ j. (kept j ++ moved j) ++ none j) ∙ append-nil ((front ++ z ∷ []) ++ back) ∙ append_assoc front (z ∷ []) back in
+    (λ j. set (copied j) (sym at j) x) ∙ set-append_seam front z back x
 
 -- ---- what holds of each item, after an edit
 module _ {X : Type 0} (P : X → Type 0) where

@@ -1,6 +1,7 @@
 -- The name at the front of bytes.
 use Rattle.std.proofs.Common.{◌≡◌, ℕ, zero, suc, ◌+◌, ◌-◌, ◌<◌, ◌≤◌, ◌⊎◌, inl, inr, true, false, List, [], ◌∷◌, ◌++◌, length, take, replicate, get_or, slice_set, None, Some, Bool, ◌==◌, ◌&&◌, ◌||◌, nat_le, refl, sym, ap, subst, ◌∙◌, arith, if◌then◌else◌, true≢false}
 use Rattle.std.proofs.lemmas.Bool.{cases_lt}
+use Rattle.std.proofs.lemmas.Bool.Decides.{nat_tests}
 use Rattle.std.proofs.lemmas.List.{append_assoc, get_or-take, length-append, length-take, length-take-le}
 use Rattle.std.proofs.Math.Nat.{min-le_left}
 use Rattle.std.proofs.Math.Seq.{set-append_seam, take-suc, take-append_seam}
@@ -103,3 +104,11 @@ pub longest_in_front : (bytes : List ℕ) (len : ℕ) → ((k : ℕ) → IsName 
 longest_in_front bytes len h k n =
     let same = same_front 16 k bytes n.within in
     subst (λ bs. length bs ≤ len) same (h k (subst IsName (sym same) n))
+
+-- a name begins with no digit, whose bytes are not above 57
+pub no_digit_first : (b : ℕ) → b ≤ 57 → fits_at 0 b ≡ false
+no_digit_first b h = grind (arith, nat_tests)
+
+-- what may stand behind another and is above the digits may stand first
+pub first_of_all : (b : ℕ) → 57 < b → fits_at 1 b ≡ true → fits_at 0 b ≡ true
+first_of_all b h f = grind (arith, nat_tests)

@@ -90,11 +90,10 @@ impl EdgeList {
         }
     }
 
-    /// Where the edge to a vertex is, in name order, if there is one to each of the shared names. It
-    /// decides no answer.
-    pub fn place_among_all(&self, target: Name) -> Option<usize> {
+    /// Where the edge to a vertex mostly is, or would go. It decides no answer.
+    pub fn likely_place(&self, target: Name) -> Option<usize> {
         match &self.form {
-            Form::Listed(edges) => edges.place_among_all(target),
+            Form::Listed(edges) => edges.likely_place(target),
             Form::ToAll(edges) => edges.likely_place(target),
         }
     }

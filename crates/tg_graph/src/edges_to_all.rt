@@ -74,7 +74,7 @@ impl EdgesToAll {
     pub fn with_room(alloc: Global, shared: &SharedNames) -> Result<EdgesToAll, AllocError>
         ensures { IfOk result (λ edges. edges ≡ []) }
     {
-        let names = Arc::try_clone(shared.in_order())?;
+        let names = Arc::try_clone(shared.names())?;
         let labels = Vec::with_capacity(alloc, names.len())?;
         Ok(EdgesToAll {
             shared: shared.clone()?,
@@ -89,7 +89,7 @@ impl EdgesToAll {
         ensures { IfSome result (λ edges. edges ≡ list.now) }
     {
         let shared = list.shared()?;
-        let names = shared.in_order();
+        let names = shared.names();
         let labels = labels_to_all(list, names.as_slice())?;
         Some(EdgesToAll {
             shared: shared.clone().ok()?,
@@ -118,7 +118,7 @@ impl EdgesToAll {
 
     /// Where the edge to a vertex mostly is. It decides no answer.
     pub fn likely_place(&self, target: Name) -> Option<usize> {
-        self.shared.likely_rank(target)
+        self.shared.likely_number(target)
     }
 
     /// The target of the edge at a place.
@@ -172,11 +172,10 @@ impl EdgesToAll {
         ensures { IfOk result (λ list. list ≡ self.now) }
     {
         let mut list = ListedEdges::with_room(alloc, names, self.len())?;
-        let numbers = self.shared.numbers_in_order();
         for place in 0..self.len() {
             let hint = Hint {
                 names,
-                number: numbers.get(place).map(|number| *number as usize),
+                number: Some(place),
             };
             list.put(place, (self.target(place), self.label(place)), hint)?;
         }

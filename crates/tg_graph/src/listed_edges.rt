@@ -1,5 +1,5 @@
 //! The edges out of one vertex: four bytes for an edge whose target's name is shared.
-ghost use Rattle.std.specs.Prelude.{◌≡◌, ◌<◌, ◌≤◌, ◌+◌, [], ◌∷◌, ◌++◌, if◌then◌else◌, Some, IfOk, OnOk, OnErr, length, slice_get, slice_index_or, slice_set};
+ghost use Rattle.std.specs.Prelude.{◌≡◌, ◌<◌, ◌≤◌, ◌+◌, [], ◌∷◌, ◌++◌, if◌then◌else◌, Some, IfOk, OnOk, OnErr, is_ok, length, slice_get, slice_index_or, slice_set};
 ghost use Rattle.std.specs.List.{insert, remove};
 ghost use Rattle.tg_graph.specs.declared.right_sets.Rights.{Rights};
 ghost use Rattle.tg_graph.specs.Sets.{IsNamed};
@@ -14,6 +14,9 @@ use std::marker::Model;
 
 // The numbers of targets are below this one, so that a label has eight bits beside them.
 const MOST_NUMBERS: usize = 16_777_216;
+
+// So many edges are counted, and of more a half is left out first.
+const FEW_EDGES: usize = 64;
 
 // How many names of their own a list's edges may leave behind before they are gathered anew.
 const SPARE_NAMES: usize = 8;
@@ -57,6 +60,46 @@ impl Edge {
     {
         Rights::from_bits_retain((self.bits % 256) as u8)
     }
+}
+
+// How many of the edges have lesser numbers. No branch depends on them, so that the processor has
+// nothing to guess.
+fn count_below(edges: &[Edge], number: u32) -> u32 {
+    let mut count: u32 = 0;
+    for edge in edges {
+        count = count.wrapping_add(u32::from(edge.bits / 256 < number));
+    }
+    count
+}
+
+// The same of edges that are mostly in the order of their numbers: halves of many are left out, and few
+// are counted.
+fn count_in_order(edges: &[Edge], number: u32) -> usize {
+    let mut few = edges;
+    let mut below: usize = 0;
+    while few.len() > FEW_EDGES {
+        let (front, back) = few.split_at(few.len() / 2);
+        few = match back.first() {
+            Some(edge) if edge.bits / 256 < number => {
+                below = below.wrapping_add(front.len());
+                back
+            }
+            _ => front,
+        };
+    }
+    below.wrapping_add(count_below(few, number) as usize)
+}
+
+// Puts an edge in at a place. Those behind it are moved all at once.
+fn insert_at(edges: &mut Vec<Edge>, place: usize, edge: Edge) -> Result<(), AllocError>
+    requires { place ≤ length edges.old.items }
+    ensures items { edges.new.items ≡ (if is_ok result then insert edges.old.items place edge else edges.old.items) }
+{
+    let end = edges.len();
+    edges.push(edge)?;
+    edges.copy_within(place..end, place + 1);
+    edges[place] = edge;
+    Ok(())
 }
 
 /// A list of edges, each with its target and label.
@@ -143,14 +186,12 @@ impl ListedEdges {
         *self.edges.allocator()
     }
 
-    /// Where the edge to a vertex is, in name order, if there is one to each of the shared names. It
-    /// decides no answer.
-    pub fn place_among_all(&self, target: Name) -> Option<usize> {
-        let names = self.targets.shared()?;
-        if self.edges.len() < names.len() {
-            return None;
-        }
-        names.likely_rank(target)
+    /// Where the edge to a vertex mostly is, or would go: behind the edges with lesser numbers, as names
+    /// have their numbers in name order. It decides no answer.
+    pub fn likely_place(&self, target: Name) -> Option<usize> {
+        let number = self.targets.shared()?.likely_number(target)?;
+        let number = u32::try_from(number).ok()?;
+        Some(count_in_order(self.edges.as_slice(), number))
     }
 
     /// The target of the edge at a place.
@@ -190,7 +231,7 @@ impl ListedEdges {
         if number >= MOST_NUMBERS {
             return Err(AllocError);
         }
-        self.edges.insert(place, Edge::new(number, edge.1))?;
+        insert_at(&mut self.edges, place, Edge::new(number, edge.1))?;
         Ok(())
     }
 

@@ -143,7 +143,7 @@ fn front_of_16(bytes: &[u8; 16]) -> ([u8; 16], usize)
     ensures longest { (k : ℕ) → IsName (take k bytes.now) → length (take k bytes.now) ≤ result.1 }
 {
     let len = fitting(bytes);
-    if len == 0 || !fits_at(0, bytes[0]) {
+    if len == 0 || bytes[0] <= b'9' {
         return ([0; 16], 0);
     }
     (cut_to(bytes, len), len)

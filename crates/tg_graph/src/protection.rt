@@ -139,21 +139,14 @@ impl Rows for Graph {
 }
 
 impl Graph {
-    // The number of a name among the shared names, where it is found among them. It is mostly the
-    // position of the vertex.
-    fn shared_number(&self, name: Name) -> Option<usize> {
-        match &self.names {
-            Some(names) => names.find(name),
-            None => None,
-        }
+    // The position that a vertex mostly has.
+    fn likely_position(&self, name: Name) -> Option<usize> {
+        self.names.as_ref()?.likely_position(name)
     }
 
-    // The number that a name mostly has among the shared names.
-    fn likely_number(&self, name: Name) -> Option<usize> {
-        match &self.names {
-            Some(names) => names.likely_number(name),
-            None => None,
-        }
+    // The same, found by the order of the shared names.
+    fn position_in_order(&self, name: Name) -> Option<usize> {
+        self.names.as_ref()?.position_in_order(name)
     }
 
     // The graph that has these rows.
@@ -238,7 +231,7 @@ impl Graph {
     fn position_by_order(&self, name: Name) -> Option<usize>
         ensures { result ≡ position (bytes_eq name) (keys_of self.now) }
     {
-        match self.confirmed(self.shared_number(name), name) {
+        match self.confirmed(self.position_in_order(name), name) {
             Some(number) => Some(number),
             None => self.rows.get_index_of(&name),
         }
@@ -249,7 +242,7 @@ impl Graph {
     pub fn position(&self, name: Name) -> Option<usize>
         ensures { result ≡ position (bytes_eq name) (keys_of self.now) }
     {
-        match self.confirmed(self.likely_number(name), name) {
+        match self.confirmed(self.likely_position(name), name) {
             Some(number) => Some(number),
             None => self.position_by_order(name),
         }
@@ -284,10 +277,9 @@ impl Graph {
         let Some(source) = self.position_near(self.source, x) else {
             return Ok(());
         };
-        let number = self.position(y);
         let hint = Hint {
             names: self.names.as_ref(),
-            number,
+            number: None,
         };
         widen(&mut self.rows, source, x, y, rights, hint)?;
         Ok(())
@@ -319,9 +311,10 @@ impl Graph {
         let Some(row) = self.rows.get_index_mut(source) else {
             return Ok(false);
         };
+        let names = self.names.as_ref();
         let hint = Hint {
-            names: self.names.as_ref(),
-            number: Some(target),
+            names,
+            number: names.and_then(|names| names.number_at(target)),
         };
         let added = row.add_new(y, rights, hint)?;
         Ok(added)
@@ -361,7 +354,7 @@ impl Graph {
         self.rows.reserve(1)?;
         let hint = Hint {
             names: self.names.as_ref(),
-            number: Some(self.rows.len()),
+            number: None,
         };
         widen(&mut self.rows, source, x, n, rights, hint)?;
         row_maps::put(&mut self.rows, n, row);
@@ -415,6 +408,7 @@ impl Graph {
     }
 
     // The position of a vertex, looked for at a position first. That one decides no answer.
+    #[inline(always)]
     pub(crate) fn position_near(&self, guess: usize, name: Name) -> Option<usize>
         ensures place { IfSome result (λ place. slice_get (keys_of self.now) place ≡ Some name) }
         ensures known { is_some result ≡ has_vertex (graph_of self.now) name }

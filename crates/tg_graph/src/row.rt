@@ -175,8 +175,9 @@ impl Row {
         ensures absent { IfErr result (IsGapFor self.now y) }
         ensures row { IsRow self.now }
     {
-        match self.edges.place_among_all(y) {
+        match self.edges.likely_place(y) {
             Some(place) if self.is_at(place, y) => Ok(place),
+            Some(place) if self.is_gap(place, y) => Err(place),
             _ => self.place_by_halves(y),
         }
     }

@@ -60,7 +60,7 @@ pub fn names_of(
     for (n, _) in rows {
         names.push(*n)?;
     }
-    SharedNames::new(alloc, names)
+    SharedNames::new(alloc, &names)
 }
 
 /// The same rows, each copied, and with these names shared among them.

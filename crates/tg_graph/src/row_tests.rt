@@ -20,7 +20,7 @@ const LONG: [&[u8]; 6] = [
     b"same_for_all_o__",
 ];
 
-// The numbers of LONG in name order: digits stand before `_`, and that before letters.
+// The positions of LONG in name order: digits stand before `_`, and that before letters.
 const IN_ORDER: [usize; 6] = [5, 1, 0, 3, 2, 4];
 
 // The vertices of LONG, with edges from the first to those with these numbers, in this order.
@@ -167,19 +167,40 @@ fn edges_that_come_and_go(rt: HostRuntime) {
     }
 }
 
-// Whether a list of edges to the names of LONG that have these numbers has one to each, in name
-// order.
-fn is_to_all(rt: &impl Abort, alloc: Global, numbers: &[usize]) -> Result<bool, AllocError> {
+// The names of LONG, which rows share.
+fn shared_long(rt: &impl Abort, alloc: Global) -> Result<SharedNames, AllocError> {
     let mut names = Vec::new(alloc);
     for n in LONG {
         names.push(name(rt, n))?;
     }
-    let mut list = ListedEdges::new(alloc, Some(SharedNames::new(alloc, names)?));
-    for number in numbers {
-        let pushed = list.push(name(rt, LONG[*number % 6]), set(rt, b"r"), *number)?;
+    SharedNames::new(alloc, &names)
+}
+
+// Whether a list of edges to these of the names of LONG has one to each, in name order.
+fn is_to_all(rt: &impl Abort, alloc: Global, positions: &[usize]) -> Result<bool, AllocError> {
+    let shared = shared_long(rt, alloc)?;
+    let mut list = ListedEdges::new(alloc, Some(shared.clone()?));
+    for position in positions {
+        let target = name(rt, LONG[*position % 6]);
+        let number = shared.find(target).unwrap_or(LONG.len());
+        let pushed = list.push(target, set(rt, b"r"), number)?;
         assert!(rt; pushed);
     }
     Ok(EdgesToAll::of(&list).is_some())
+}
+
+#[test]
+fn shared_names_are_numbered_in_order(rt: HostRuntime) -> Result<(), Fail> {
+    let shared = shared_long(&rt, rt.alloc())?;
+    for number in 0..6 {
+        let position = IN_ORDER[number];
+        let target = name(&rt, LONG[position % 6]);
+        assert!(rt; shared.at(number) == Some(target));
+        assert!(rt; shared.number_at(position) == Some(number));
+        assert!(rt; shared.position_in_order(target) == Some(position));
+    }
+    assert!(rt; shared.at(6).is_none() && shared.number_at(6).is_none());
+    Ok(())
 }
 
 #[test]
@@ -200,9 +221,13 @@ fn each_shared_name_is_found(rt: HostRuntime) -> Result<(), Fail> {
     for number in 0..MANY {
         names.push(Name::helper(number))?;
     }
-    let shared = SharedNames::new(rt.alloc(), names)?;
-    for number in 0..MANY {
-        assert!(rt; shared.find(Name::helper(number)) == Some(number as usize));
+    let shared = SharedNames::new(rt.alloc(), &names)?;
+    for position in 0..MANY {
+        let target = Name::helper(position);
+        let found = shared.find(target);
+        assert!(rt; found.and_then(|number| shared.at(number)) == Some(target));
+        assert!(rt; found == shared.number_at(position as usize));
+        assert!(rt; shared.position_in_order(target) == Some(position as usize));
     }
     assert!(rt; shared.find(Name::helper(MANY)).is_none());
     Ok(())

@@ -1,5 +1,6 @@
 //! Names by number, which many rows share.
-ghost use Rattle.std.specs.Prelude.{◌≡◌, Some, IfOk, IfSome, length, slice_get};
+ghost use Rattle.std.specs.Prelude.{◌≡◌, Some, IfSome, length, slice_get};
+ghost use Rattle.std.specs.Arc.{arc_value};
 
 use crate::names::Name;
 use std::alloc::{AllocError, Global};
@@ -9,29 +10,30 @@ use std::sync::Arc;
 // How many slots there are for each name.
 const SLOTS_A_NAME: usize = 4;
 
-// Where a name may stand: its place in the name order, and its number.
+// Where a name may stand: its number, and the position of its vertex.
 #[derive(Clone, Copy)]
 struct Slot {
     // What the name spreads to, by which it is known here, or 0 where no name stands.
     spread: u32,
-    rank: u32,
     number: u32,
+    position: u32,
 }
 
 // Names by number, and what finds the number of a name.
 #[derive(Drop)]
 struct NameTable {
-    names: Vec<Name>,
-    // The names in name order.
-    in_order: Arc<Vec<Name>>,
-    // Their numbers, in the same order.
+    // The names in name order, by which they have their numbers.
+    names: Arc<Vec<Name>>,
+    // The positions of their vertices, in the same order.
+    positions: Vec<u32>,
+    // The numbers of the names by position.
     numbers: Vec<u32>,
     // A name whose slot has another's stands at the slot beside it. Where that has another's too, the
     // name is looked for in the order, so that no choice of names makes a look-up dear.
     slots: Vec<Slot>,
 }
 
-/// Names by number. Clones share them, and they never change.
+/// Names by number, in name order. Clones share them, and they never change.
 #[derive(Drop)]
 pub struct SharedNames {
     table: Arc<NameTable>,
@@ -43,7 +45,7 @@ impl Model for SharedNames {
 
     ghost Value = { List (List ℕ) };
 
-    ghost view = { λ s. (arc_value s.table).names.items };
+    ghost view = { λ s. (arc_value (arc_value s.table).names).items };
 }
 
 impl Clone for SharedNames {
@@ -58,25 +60,36 @@ impl Clone for SharedNames {
     }
 }
 
-// Names with their numbers, in name order.
-fn numbered(alloc: Global, names: &[Name]) -> Result<Vec<(Name, u32)>, AllocError> {
-    let mut numbered = Vec::with_capacity(alloc, names.len())?;
-    for (number, name) in names.iter().enumerate() {
-        numbered.push((*name, u32::try_from(number).unwrap_or(0)))?;
+// Names with their positions, in name order.
+fn in_order(alloc: Global, names: &[Name]) -> Result<Vec<(Name, u32)>, AllocError> {
+    let mut in_order = Vec::with_capacity(alloc, names.len())?;
+    for (position, name) in names.iter().enumerate() {
+        in_order.push((*name, u32::try_from(position).unwrap_or(0)))?;
     }
-    numbered.sort_unstable_by_key(|&(name, _)| name);
-    Ok(numbered)
+    in_order.sort_unstable_by_key(|&(name, _)| name);
+    Ok(in_order)
 }
 
-// Names in name order, and their numbers in the same order.
-fn in_order(alloc: Global, names: &[Name]) -> Result<(Vec<Name>, Vec<u32>), AllocError> {
-    let mut in_order = Vec::with_capacity(alloc, names.len())?;
-    let mut numbers = Vec::with_capacity(alloc, names.len())?;
-    for (name, number) in &numbered(alloc, names)? {
-        in_order.push(*name)?;
-        numbers.push(*number)?;
+// Names alone, and their positions alone.
+fn apart(alloc: Global, in_order: &[(Name, u32)]) -> Result<(Vec<Name>, Vec<u32>), AllocError> {
+    let mut names = Vec::with_capacity(alloc, in_order.len())?;
+    let mut positions = Vec::with_capacity(alloc, in_order.len())?;
+    for (name, position) in in_order {
+        names.push(*name)?;
+        positions.push(*position)?;
     }
-    Ok((in_order, numbers))
+    Ok((names, positions))
+}
+
+// The numbers by position of names that have these positions in name order.
+fn numbers_by_position(alloc: Global, positions: &[u32]) -> Result<Vec<u32>, AllocError> {
+    let mut numbers = Vec::from_elem(alloc, 0, positions.len())?;
+    for (number, position) in positions.iter().enumerate() {
+        if let Some(place) = numbers.get_mut(*position as usize) {
+            *place = u32::try_from(number).unwrap_or(0);
+        }
+    }
+    Ok(numbers)
 }
 
 // The slot among so many of a name that spreads to this, if there are any.
@@ -100,22 +113,22 @@ fn slot_for(slots: &[Slot], spread: u32) -> usize {
 
 // At the slot of each name, or at the slot beside it, where the name stands. Where both are taken, the
 // name takes the place of another.
-fn slots_of(alloc: Global, in_order: &[Name], numbers: &[u32]) -> Result<Vec<Slot>, AllocError> {
+fn slots_of(alloc: Global, in_order: &[(Name, u32)]) -> Result<Vec<Slot>, AllocError> {
     let count = in_order.len().saturating_mul(SLOTS_A_NAME);
     let nowhere = Slot {
         spread: 0,
-        rank: 0,
         number: 0,
+        position: 0,
     };
     let mut slots = Vec::from_elem(alloc, nowhere, count)?;
-    for (rank, (name, number)) in in_order.iter().zip(numbers).enumerate() {
+    for (number, (name, position)) in in_order.iter().enumerate() {
         let spread = name.spread();
         let place = slot_for(slots.as_slice(), spread);
         if let Some(slot) = slots.get_mut(place) {
             *slot = Slot {
                 spread,
-                rank: u32::try_from(rank).unwrap_or(0),
-                number: *number,
+                number: u32::try_from(number).unwrap_or(0),
+                position: *position,
             };
         }
     }
@@ -123,17 +136,16 @@ fn slots_of(alloc: Global, in_order: &[Name], numbers: &[u32]) -> Result<Vec<Slo
 }
 
 impl SharedNames {
-    /// The names, in their order.
-    pub fn new(alloc: Global, names: Vec<Name>) -> Result<SharedNames, AllocError>
-        ensures { IfOk result (λ shared. shared ≡ names.items) }
-    {
-        let (in_order, numbers) = in_order(alloc, &names)?;
-        let slots = slots_of(alloc, &in_order, &numbers)?;
+    /// The names of vertices that come by position. Which names there are, and where, decides no
+    /// answer.
+    pub fn new(alloc: Global, names: &[Name]) -> Result<SharedNames, AllocError> {
+        let in_order = in_order(alloc, names)?;
+        let (names, positions) = apart(alloc, &in_order)?;
         let table = NameTable {
-            names,
-            in_order: Arc::new(alloc, in_order)?,
-            numbers,
-            slots,
+            names: Arc::new(alloc, names)?,
+            numbers: numbers_by_position(alloc, &positions)?,
+            positions,
+            slots: slots_of(alloc, &in_order)?,
         };
         Ok(SharedNames {
             table: Arc::new(alloc, table)?,
@@ -147,14 +159,21 @@ impl SharedNames {
         self.table.names.len()
     }
 
-    /// The names in name order.
-    pub fn in_order(&self) -> &Arc<Vec<Name>> {
-        &self.table.in_order
+    /// The names by number, in name order.
+    pub fn names(&self) -> &Arc<Vec<Name>>
+        ensures { (arc_value result.now).items ≡ self.now }
+    {
+        &self.table.names
     }
 
-    /// The numbers of the names in name order. They decide no answer.
-    pub fn numbers_in_order(&self) -> &[u32] {
-        self.table.numbers.as_slice()
+    /// The positions of the vertices with these names, in name order. They decide no answer.
+    pub fn positions(&self) -> &[u32] {
+        self.table.positions.as_slice()
+    }
+
+    /// The number that the name of the vertex at a position mostly has. It decides no answer.
+    pub fn number_at(&self, position: usize) -> Option<usize> {
+        Some(*self.table.numbers.get(position)? as usize)
     }
 
     // What stands at the slot of a name, or else at the slot beside it.
@@ -168,14 +187,20 @@ impl SharedNames {
         }
     }
 
-    /// The place in the name order that a name mostly has. It decides no answer.
-    pub fn likely_rank(&self, name: Name) -> Option<usize> {
-        Some(self.slot(name)?.rank as usize)
-    }
-
     /// The number that a name mostly has. It decides no answer.
     pub fn likely_number(&self, name: Name) -> Option<usize> {
         Some(self.slot(name)?.number as usize)
+    }
+
+    /// The position that the vertex with a name mostly has. It decides no answer.
+    pub fn likely_position(&self, name: Name) -> Option<usize> {
+        Some(self.slot(name)?.position as usize)
+    }
+
+    /// The position of the vertex with a name, found by the order of the names. It decides no answer.
+    pub fn position_in_order(&self, name: Name) -> Option<usize> {
+        let number = self.number_in_order(name)?;
+        Some(*self.table.positions.get(number)? as usize)
     }
 
     /// The name with a number.
@@ -189,8 +214,7 @@ impl SharedNames {
 impl SharedNames {
     // The number of a name by the order of the names.
     fn number_in_order(&self, name: Name) -> Option<usize> {
-        let rank = self.table.in_order.binary_search(&name).ok()?;
-        Some(*self.table.numbers.get(rank)? as usize)
+        self.table.names.binary_search(&name).ok()
     }
 
     // The number, if it is that of the name.

@@ -118,8 +118,9 @@ impl Targets {
     // A number that the name may have: that of the hint, or else that among the shared names.
     fn likely_number(&self, name: Name, hint: Hint) -> Option<usize> {
         match (hint.number, &self.shared) {
-            (None, Some(names)) => names.find(name),
-            (number, _) => number,
+            (Some(number), _) if self.is_at(number, name) => Some(number),
+            (_, Some(names)) => names.find(name),
+            _ => None,
         }
     }
 

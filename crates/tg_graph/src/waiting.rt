@@ -23,29 +23,30 @@ fn put(
     row: &mut Row,
     target: Name,
     label: Rights,
-    place: usize,
+    number: usize,
 ) -> Result<(), AllocError>
     requires { IsLabel label }
     ensures adds { OnOk result (Adds row.old row.new target label) }
 {
-    if row.push(target, label, place)? {
+    if row.push(target, label, number)? {
         return Ok(());
     }
     let hint = Hint {
         names: graph.names.as_ref(),
-        number: Some(place),
+        number: Some(number),
     };
     row.add(target, label, hint)?;
     Ok(())
 }
 
-// Moves the label at a position to the row.
+// Moves the label at a position to the row, for a vertex whose name may have the number.
 #[inline(always)]
 fn move_label(
     graph: &Graph,
     row: &mut Row,
     left: &mut Labels,
     place: usize,
+    number: usize,
 ) -> Result<(), AllocError>
     ensures moved { (labels : List Rights) → IsMoving (keys_of graph.now) labels row.old left.old → OnOk result
         (IsMoving (keys_of graph.now) labels row.new left.new) }
@@ -60,7 +61,7 @@ fn move_label(
     let Some(name) = graph.name_at(place) else {
         return Ok(());
     };
-    put(graph, row, name, left.at(place), place)?;
+    put(graph, row, name, left.at(place), number)?;
     left.set(place, Rights::empty());
     Ok(())
 }
@@ -74,10 +75,10 @@ fn move_in_order(graph: &Graph, row: &mut Row, left: &mut Labels) -> Result<(), 
     let Some(names) = &graph.names else {
         return Ok(());
     };
-    for number in names.numbers_in_order() {
-        let place = *number as usize;
+    for (number, position) in names.positions().iter().enumerate() {
+        let place = *position as usize;
         if left.has(place) {
-            move_label(graph, row, left, place)?;
+            move_label(graph, row, left, place, number)?;
         }
     }
     Ok(())
@@ -93,7 +94,7 @@ fn move_all(graph: &Graph, row: &mut Row, left: &mut Labels) -> Result<(), Alloc
     }
     for place in 0..graph.len() {
         if left.has(place) {
-            move_label(graph, row, left, place)?;
+            move_label(graph, row, left, place, place)?;
         }
     }
     Ok(())

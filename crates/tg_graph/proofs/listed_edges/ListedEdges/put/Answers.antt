@@ -16,20 +16,20 @@ invariant_of-self-then-number-ge-MOST_NUMBERS c = within-extends _ _ c.number_fo
 pub returns-then-number-ge-MOST_NUMBERS-clause-err : goal.returns-then-number-ge-MOST_NUMBERS-clause-err
 returns-then-number-ge-MOST_NUMBERS-clause-err c = edges-extends _ _ c.number_for.ensures.kept c.self.inside.edges.items c.self.invariant ∙ c.self.view_is
 
-pub invariant_of-self-in_err-insert : goal.invariant_of-self-in_err-insert
-invariant_of-self-in_err-insert c =
+pub invariant_of-self-in_err-insert_at : goal.invariant_of-self-in_err-insert_at
+invariant_of-self-in_err-insert_at c =
     let names = names_of c.number_for.new.self in
-    subst (AreWithin names) (sym c.in_err-insert.ensures.items) (within-extends _ _ c.number_for.ensures.kept c.self.inside.edges.items c.self.invariant)
+    subst (AreWithin names) (sym c.in_err-insert_at.ensures.items) (within-extends _ _ c.number_for.ensures.kept c.self.inside.edges.items c.self.invariant)
 
-pub returns-in_err-insert-clause-err : goal.returns-in_err-insert-clause-err
-returns-in_err-insert-clause-err c =
+pub returns-in_err-insert_at-clause-err : goal.returns-in_err-insert_at-clause-err
+returns-in_err-insert_at-clause-err c =
     let names = names_of c.number_for.new.self in
-    on_err_from c.from_residual-in_err-insert.result (ap (edges_of names) c.in_err-insert.ensures.items ∙ edges-extends _ _ c.number_for.ensures.kept c.self.inside.edges.items c.self.invariant ∙ c.self.view_is)
+    on_err_from c.from_residual-in_err-insert_at.result (ap (edges_of names) c.in_err-insert_at.ensures.items ∙ edges-extends _ _ c.number_for.ensures.kept c.self.inside.edges.items c.self.invariant ∙ c.self.view_is)
 
 pub invariant_of-self-2 : goal.invariant_of-self-2
 invariant_of-self-2 c =
     let names = names_of c.number_for.new.self in
-    subst (AreWithin names) (sym c.in_ok-insert.ensures.items)
+    subst (AreWithin names) (sym c.in_ok-insert_at.ensures.items)
     (each-insert (λ e. number_of e < length names) c.self.inside.edges.items c.args.place c.new.result
     (within-extends _ _ c.number_for.ensures.kept c.self.inside.edges.items c.self.invariant)
     (omega (arith, c.new.ensures.number, slice_get_within names c.in_ok-number.number c.args.edge.0 c.in_ok-number.ensures.found)))
@@ -39,6 +39,6 @@ returns-clause-put c =
     let names = names_of c.number_for.new.self in
     let es = c.self.inside.edges.items in
     let same : edges_of names es ≡ c.args.self.now = edges-extends _ _ c.number_for.ensures.kept es c.self.invariant ∙ c.self.view_is in
-    ap (edges_of names) c.in_ok-insert.ensures.items
+    ap (edges_of names) c.in_ok-insert_at.ensures.items
     ∙ map-insert (named names) es c.args.place c.new.result
     ∙ (λ i. insert (same i) c.args.place (named-is names c.new.result c.args.edge.0 c.args.edge.1 c.in_ok-number.number c.in_ok-number.ensures.found c.new.ensures.number c.new.ensures.label i))
