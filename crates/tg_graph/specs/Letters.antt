@@ -18,6 +18,11 @@ letter_of E = 101
 letter_of A = 97
 letter_of D = 100
 
+-- the set of the right, if there is one
+abbrev pub set_of_right : Option Right → Rights
+set_of_right None = nothing
+set_of_right (Some right) = record { 0 = 2 ^ bit_of right }
+
 -- the letters of those of the rights that are in s
 abbrev pub letters_among : Rights → List Right → List ℕ
 letters_among s [] = []

@@ -1,7 +1,7 @@
 //! The rights of one vertex over another.
-ghost use Rattle.std.specs.Prelude.{⊤, ◌≡◌, ◌==◌, ◌^◌, ◌<◌, [], ◌∷◌, codes, Some, None};
+ghost use Rattle.std.specs.Prelude.{⊤, ◌≡◌, ◌==◌, ◌^◌, ◌<◌, [], ◌∷◌, codes, Some, None, if◌then◌else◌};
 ghost use Rattle.tg_graph.specs.Sets.{member, bit_of, nothing, IsNamed, right_of_letter};
-ghost use Rattle.tg_graph.specs.Letters.{letters_of, letters_among, letter_of, set_of_letters, with_letters};
+ghost use Rattle.tg_graph.specs.Letters.{letters_of, letters_among, letter_of, set_of_letters, set_of_right, with_letters, with_new_right};
 ghost use Rattle.std.specs.Prelude.{◌+◌, ◌||◌, ◌&&◌, ◌↔◌, not, true, IsTrue, bit_or, slice_get, length, IfSome};
 ghost use Rattle.tg_graph.specs.declared.right_sets.Right.{Right};
 ghost use Rattle.tg_graph.specs.Sets.{rights_where};
@@ -115,6 +115,15 @@ impl Right {
     }
 }
 
+// One of two numbers. Both are there before the test is looked at, so that the processor has no branch
+// to guess.
+#[inline(always)]
+fn chosen(test: bool, yes: u8, no: u8) -> u8
+    ensures { result ≡ (if test then yes else no) }
+{
+    if test { yes } else { no }
+}
+
 impl Rights {
     /// The set of one right.
     pub fn of(right: Right) -> Rights
@@ -208,21 +217,44 @@ impl Rights {
         None
     }
 
+    // The set of the right of a letter, empty for a byte that is none.
+    fn of_letter(byte: u8) -> Rights
+        ensures set { result ≡ set_of_right (right_of_letter byte) }
+        ensures named { IsNamed result }
+    {
+        let bits = chosen(byte == b'd', 64, 0);
+        let bits = chosen(byte == b'a', 32, bits);
+        let bits = chosen(byte == b'e', 16, bits);
+        let bits = chosen(byte == b'w', 8, bits);
+        let bits = chosen(byte == b'r', 4, bits);
+        let bits = chosen(byte == b'g', 2, bits);
+        Rights(chosen(byte == b't', 1, bits))
+    }
+
+    // The set with the right of a letter besides, which it has not yet. There is none for a byte that is
+    // no letter.
+    #[inline(always)]
+    fn with_letter(self, letter: u8) -> Option<Rights>
+        requires { IsNamed self }
+        ensures value { result ≡ with_new_right self (right_of_letter letter) }
+        ensures named { IfSome result IsNamed }
+    {
+        let right = Rights::of_letter(letter);
+        if right.is_empty() || Flags::contains(&self, right) {
+            return None;
+        }
+        Some(Flags::union(self, right))
+    }
+
     // The set that one byte writes.
     fn from_byte(byte: u8) -> Option<Rights>
         ensures value { result ≡ set_of_letters (byte ∷ []) }
         ensures named { IfSome result IsNamed }
     {
-        match byte {
-            b't' => Some(Rights::TAKE),
-            b'g' => Some(Rights::GRANT),
-            b'r' => Some(Rights::READ),
-            b'w' => Some(Rights::WRITE),
-            b'e' => Some(Rights::EXECUTE),
-            b'a' => Some(Rights::APPEND),
-            b'd' => Some(Rights::DELETE),
-            b'-' => Some(Rights::empty()),
-            _ => None,
+        if byte == b'-' {
+            Some(Rights::empty())
+        } else {
+            Rights::empty().with_letter(byte)
         }
     }
 
@@ -233,11 +265,7 @@ impl Rights {
     {
         let mut rights = Rights::empty();
         for letter in letters {
-            let right = Right::from_letter(*letter)?;
-            if rights.has(right) {
-                return None;
-            }
-            rights = Flags::union(rights, Rights::of(right));
+            rights = rights.with_letter(*letter)?;
         }
         Some(rights)
     }

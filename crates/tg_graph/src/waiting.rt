@@ -14,7 +14,7 @@ use crate::right_sets::Rights;
 use crate::row::Row;
 use crate::shared_names::Hint;
 use bitflags::Flags;
-use std::alloc::AllocError;
+use std::alloc::{AllocError, Global};
 
 // Adds an edge to the row: behind the others, if it belongs there.
 #[inline(always)]
@@ -66,6 +66,26 @@ fn move_label(
     Ok(())
 }
 
+// The numbers of the names for which there are labels, each with the position of its vertex, where these
+// are all positions. No branch depends on the labels, so that the processor has nothing to guess.
+fn labelled(
+    alloc: Global,
+    positions: &[u32],
+    labels: &Labels,
+) -> Result<Vec<(usize, usize)>, AllocError> {
+    let mut found = Vec::from_elem(alloc, (0, 0), positions.len())?;
+    let mut count: usize = 0;
+    for (number, position) in positions.iter().enumerate() {
+        let place = *position as usize;
+        if let Some(next) = found.get_mut(count) {
+            *next = (number, place);
+        }
+        count = count.wrapping_add(usize::from(labels.has(place)));
+    }
+    found.truncate(count);
+    Ok(found)
+}
+
 // Moves labels to the row in the order of the names, as far as the names of the vertices are shared.
 // It decides no answer which are moved.
 fn move_in_order(graph: &Graph, row: &mut Row, left: &mut Labels) -> Result<(), AllocError>
@@ -75,11 +95,8 @@ fn move_in_order(graph: &Graph, row: &mut Row, left: &mut Labels) -> Result<(), 
     let Some(names) = &graph.names else {
         return Ok(());
     };
-    for (number, position) in names.positions().iter().enumerate() {
-        let place = *position as usize;
-        if left.has(place) {
-            move_label(graph, row, left, place, number)?;
-        }
+    for (number, place) in &labelled(graph.alloc, names.positions(), left)? {
+        move_label(graph, row, left, *place, *number)?;
     }
     Ok(())
 }
