@@ -66,24 +66,35 @@ fn move_label(
     Ok(())
 }
 
-// The numbers of the names for which there are labels, each with the position of its vertex, where these
-// are all positions. No branch depends on the labels, so that the processor has nothing to guess.
-fn labelled(
-    alloc: Global,
-    positions: &[u32],
-    labels: &Labels,
-) -> Result<Vec<(usize, usize)>, AllocError> {
-    let mut found = Vec::from_elem(alloc, (0, 0), positions.len())?;
+// Those of the positions at which there are labels. No branch depends on the labels, so that the
+// processor has nothing to guess.
+fn labelled(alloc: Global, positions: &[u32], labels: &Labels) -> Result<Vec<u32>, AllocError> {
+    let mut found = Vec::from_elem(alloc, 0, positions.len())?;
     let mut count: usize = 0;
-    for (number, position) in positions.iter().enumerate() {
-        let place = *position as usize;
+    for position in positions {
         if let Some(next) = found.get_mut(count) {
-            *next = (number, place);
+            *next = *position;
         }
-        count = count.wrapping_add(usize::from(labels.has(place)));
+        count = count.wrapping_add(usize::from(labels.has(*position as usize)));
     }
     found.truncate(count);
     Ok(found)
+}
+
+// Moves the label of each of the shared names to the row, in their order.
+fn move_each(
+    graph: &Graph,
+    positions: &[u32],
+    row: &mut Row,
+    left: &mut Labels,
+) -> Result<(), AllocError>
+    ensures { (labels : List Rights) → IsMoving (keys_of graph.now) labels row.old left.old → OnOk result
+        (IsMoving (keys_of graph.now) labels row.new left.new) }
+{
+    for (number, position) in positions.iter().enumerate() {
+        move_label(graph, row, left, *position as usize, number)?;
+    }
+    Ok(())
 }
 
 // Moves labels to the row in the order of the names, as far as the names of the vertices are shared.
@@ -95,8 +106,13 @@ fn move_in_order(graph: &Graph, row: &mut Row, left: &mut Labels) -> Result<(), 
     let Some(names) = &graph.names else {
         return Ok(());
     };
-    for (number, place) in &labelled(graph.alloc, names.positions(), left)? {
-        move_label(graph, row, left, *place, *number)?;
+    if left.is_full() {
+        return move_each(graph, names.positions(), row, left);
+    }
+    for position in &labelled(graph.alloc, names.positions(), left)? {
+        let place = *position as usize;
+        let number = names.number_at(place).unwrap_or(place);
+        move_label(graph, row, left, place, number)?;
     }
     Ok(())
 }

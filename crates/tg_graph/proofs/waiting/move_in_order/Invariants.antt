@@ -4,5 +4,5 @@ use Rattle.tg_graph.specs.declared.right_sets.Rights.{Rights}
 use Rattle.tg_graph.specs.Waiting.{IsMoving}
 use Rattle.tg_graph.proofs.waiting.move_in_order.Given as goal
 
-abbrev pub invariant-loop-number : goal.invariant-loop-number
-invariant-loop-number l = (labels : List Rights) → IsMoving (keys_of l.graph) labels l.fn.row l.fn.left → IsMoving (keys_of l.graph) labels l.row l.left
+abbrev pub invariant-loop-position : goal.invariant-loop-position
+invariant-loop-position l = (labels : List Rights) → IsMoving (keys_of l.graph) labels l.fn.row l.fn.left → IsMoving (keys_of l.graph) labels l.row l.left
