@@ -17,6 +17,7 @@ pub mod Laws
 pub mod Limits
 pub mod Drafts
 pub mod EdgeForms
+pub mod Ends
 pub mod EdgeLists
 pub mod TakenRows
 pub mod Waiting

@@ -98,6 +98,14 @@ impl EdgeList {
         }
     }
 
+    /// The position that the target of the edge at a place mostly has. It decides no answer.
+    pub fn likely_end(&self, place: usize) -> Option<usize> {
+        match &self.form {
+            Form::Listed(edges) => edges.likely_end(place),
+            Form::ToAll(edges) => edges.likely_end(place),
+        }
+    }
+
     /// The target of the edge at a place.
     pub fn target(&self, place: usize) -> Name
         requires { place < length self.now }

@@ -121,6 +121,11 @@ impl EdgesToAll {
         self.shared.likely_number(target)
     }
 
+    /// The position that the target of the edge at a place mostly has. It decides no answer.
+    pub fn likely_end(&self, place: usize) -> Option<usize> {
+        self.shared.position_at(place)
+    }
+
     /// The target of the edge at a place.
     pub fn target(&self, place: usize) -> Name
         requires { place < length self.now }

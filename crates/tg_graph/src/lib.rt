@@ -15,6 +15,9 @@ mod draft_tests;
 mod edge_list;
 mod edges_to_all;
 #[cfg(test)]
+mod end_tests;
+mod ends;
+#[cfg(test)]
 mod famine_tests;
 mod labels;
 pub mod laws;
@@ -42,6 +45,7 @@ mod waiting;
 
 pub use builder::GraphBuilder;
 pub use draft::{Draft, Ready, drafts_apart_commute, drafts_fit_by_names};
+pub use ends::Wanted;
 pub use limits::{MOST_CELLS, MOST_SEATS, MOST_VERTICES};
 pub use names::{Name, NameFault};
 pub use protection::{EdgeFault, Graph, VertexFault};

@@ -194,6 +194,12 @@ impl ListedEdges {
         Some(count_in_order(self.edges.as_slice(), number))
     }
 
+    /// The position that the target of the edge at a place mostly has. It decides no answer.
+    pub fn likely_end(&self, place: usize) -> Option<usize> {
+        let edge = self.edges.get(place).copied()?;
+        self.targets.shared()?.position_at(edge.number())
+    }
+
     /// The target of the edge at a place.
     pub fn target(&self, place: usize) -> Name
         requires { place < length self.now }

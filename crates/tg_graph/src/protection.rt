@@ -215,8 +215,14 @@ impl Graph {
         self.position(name).is_some()
     }
 
+    // The position that the target of an edge out of the vertex at a position mostly has.
+    pub(crate) fn likely_end(&self, position: usize, place: usize) -> Option<usize> {
+        let (_, row) = self.rows.get_index(position)?;
+        row.edges().likely_end(place)
+    }
+
     // The number, if it is the position of the vertex.
-    fn confirmed(&self, number: Option<usize>, name: Name) -> Option<usize>
+    pub(crate) fn confirmed(&self, number: Option<usize>, name: Name) -> Option<usize>
         ensures { IfSome result
             (λ number. position (bytes_eq name) (keys_of self.now) ≡ Some number) }
     {

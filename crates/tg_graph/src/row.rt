@@ -106,6 +106,11 @@ impl Row {
         self.edges.at(position)
     }
 
+    /// The position that the target of the edge at a place mostly has. It decides no answer.
+    pub fn likely_end(&self, place: usize) -> Option<usize> {
+        self.edges.likely_end(place)
+    }
+
     // Whether the edge to y is at the place.
     fn is_at(&self, place: usize, y: Name) -> bool
         ensures { result ≡ true → IsPlaceOf self.now y place }

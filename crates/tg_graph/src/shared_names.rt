@@ -171,6 +171,11 @@ impl SharedNames {
         self.table.positions.as_slice()
     }
 
+    /// The position that the vertex with the name of a number mostly has. It decides no answer.
+    pub fn position_at(&self, number: usize) -> Option<usize> {
+        Some(*self.table.positions.get(number)? as usize)
+    }
+
     /// The number that the name of the vertex at a position mostly has. It decides no answer.
     pub fn number_at(&self, position: usize) -> Option<usize> {
         Some(*self.table.numbers.get(position)? as usize)

@@ -1,0 +1,70 @@
+// Ends of edges by position, beside the names and positions that they stand for.
+use crate::ends::Wanted;
+use crate::names::Name;
+use crate::protection::Graph;
+use crate::right_sets::{Right, Rights};
+use crate::test_values::set;
+use std::alloc::Global;
+use std::process::Abort;
+use std::test::Fail;
+
+// As many vertices as share their names with the rows, and then as many more.
+const COUNT: u32 = 12;
+
+// Adds an edge between two vertices with these numbers.
+fn add(rt: &impl Abort, g: &mut Graph, x: u32, y: u32, letters: &[u8]) {
+    let added = g.add_edge(Name::helper(x), Name::helper(y), set(rt, letters));
+    assert!(rt; added == Ok(()));
+}
+
+// Adds vertices with these numbers.
+fn add_vertices(rt: &impl Abort, g: &mut Graph, first: u32, last: u32) {
+    for number in first..last {
+        assert!(rt; g.add_vertex(Name::helper(number)) == Ok(()));
+    }
+}
+
+// Edges to vertices whose names are shared, and to others that came later.
+fn mixed(rt: &impl Abort, alloc: Global) -> Graph {
+    let mut g = Graph::new(alloc);
+    add_vertices(rt, &mut g, 0, COUNT);
+    add(rt, &mut g, 1, 7, b"r");
+    add(rt, &mut g, 1, 2, b"t");
+    add_vertices(rt, &mut g, COUNT, 20);
+    add(rt, &mut g, 1, 15, b"rg");
+    add(rt, &mut g, 1, 0, b"w");
+    g
+}
+
+// What names and positions say of the end of an edge.
+fn by_name(g: &Graph, position: usize, place: usize) -> Option<(usize, Rights)> {
+    let (name, label) = g.row_at(position, place)?;
+    Some((g.position(name)?, label))
+}
+
+fn agrees(rt: &impl Abort, g: &Graph, position: usize, place: usize) {
+    let said = g.end_at(position, place, Wanted::All);
+    assert!(rt; said == by_name(g, position, place));
+}
+
+#[test]
+fn each_end_is_where_its_name_is(rt: HostRuntime) -> Result<(), Fail> {
+    let g = mixed(&rt, rt.alloc());
+    for place in 0..5 {
+        agrees(&rt, &g, 1, place);
+    }
+    Ok(())
+}
+
+#[test]
+fn an_end_is_told_of_edges_that_are_asked_for(rt: HostRuntime) -> Result<(), Fail> {
+    // in name order: _0 w, _15 rg, _2 t, _7 r
+    let g = mixed(&rt, rt.alloc());
+    assert!(rt; g.end_at(1, 0, Wanted::Links) == None);
+    assert!(rt; g.end_at(1, 1, Wanted::Links) == Some((15, set(&rt, b"rg"))));
+    assert!(rt; g.end_at(1, 2, Wanted::With(Right::R)) == None);
+    assert!(rt; g.end_at(1, 3, Wanted::With(Right::R)) == Some((7, set(&rt, b"r"))));
+    assert!(rt; g.end_at(1, 4, Wanted::All) == None);
+    assert!(rt; g.end_at(20, 0, Wanted::All) == None);
+    Ok(())
+}
