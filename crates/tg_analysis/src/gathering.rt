@@ -8,18 +8,14 @@ ghost use Rattle.tg_analysis.specs.Gathered.{target_of, TakesEdge, TakesEdges, G
 use crate::holdings::Holdings;
 use crate::numbering::Islands;
 use std::alloc::{AllocError, Global};
-use tg_graph::{Graph, Right};
+use tg_graph::{Graph, Right, Wanted};
 
 // The position of the target of an edge, if its label has the right.
 fn target_of(graph: &Graph, right: Right, position: usize, place: usize) -> Option<usize>
     ensures { result ≡ target_of graph.now right position place }
 {
-    let (name, label) = graph.row_at(position, place)?;
-    if label.has(right) {
-        graph.position(name)
-    } else {
-        None
-    }
+    let (target, _) = graph.end_at(position, place, Wanted::With(right))?;
+    Some(target)
 }
 
 // The island of a vertex holds what one of its edges says.

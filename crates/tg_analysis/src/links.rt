@@ -7,7 +7,7 @@ ghost use Rattle.tg_analysis.specs.Linked.{neighbours, linked_end, AreLinks, Add
 use crate::positions::Positions;
 use std::alloc::{AllocError, Global};
 use std::marker::Model;
-use tg_graph::{Graph, Right};
+use tg_graph::{Graph, Wanted};
 
 /// For each vertex of a graph, by position, the positions of the vertices that are linked to it.
 ///
@@ -29,12 +29,8 @@ impl Model for Links {
 pub fn linked_end(graph: &Graph, position: usize, place: usize) -> Option<usize>
     ensures { result ≡ linked_end graph.now position place }
 {
-    let (name, label) = graph.row_at(position, place)?;
-    if label.has(Right::T) || label.has(Right::G) {
-        graph.position(name)
-    } else {
-        None
-    }
+    let (end, _) = graph.end_at(position, place, Wanted::Links)?;
+    Some(end)
 }
 
 impl Links {
