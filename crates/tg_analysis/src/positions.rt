@@ -1,16 +1,20 @@
 //! Lists of positions.
 ghost use Rattle.std.specs.Prelude.{◌≡◌, ◌++◌, ◌∷◌, [], OnOk, length};
 
+use smallvec::SmallVec;
 use std::alloc::{AllocError, Global};
 use std::marker::Model;
 
-/// Positions of vertices, four bytes each.
+// So many positions take no memory of their own: most vertices of a sparse graph have few neighbours.
+const FEW_POSITIONS: usize = 6;
+
+/// Positions of vertices, four bytes each. A few of them take no memory beside the value.
 ///
 /// A position of 2^32 or more, of which no machine has so many vertices in memory, is refused as one
 /// for which there is no memory.
 #[derive(Drop)]
 pub struct Positions {
-    listed: Vec<u32>,
+    listed: SmallVec<u32, FEW_POSITIONS>,
 }
 
 impl Model for Positions {
@@ -27,7 +31,7 @@ impl Positions {
         ensures { result ≡ [] }
     {
         Positions {
-            listed: Vec::new(alloc),
+            listed: SmallVec::new(alloc),
         }
     }
 
