@@ -133,38 +133,44 @@ pub edge-within : (es : Entries) (numbers : List ℕ) (right : Right) (number b 
 edge-within es numbers right number b a place e =
     let t = is_there es right a place b e.leads in slice_get_within (row_number es a) place (t.name, t.label) t.read
 
+-- ---- the edges out of an island say what can be shared
+module _ (es : Entries) (ok : IsGraph es) (well : WellFormed (graph_of es)) (shared : SharedExactly) (few_vertices : length (keys_of es) < 2 ^ 64) (numbers : List ℕ) (are : AreIslands (graph_of es) numbers) (right : Right) (i j : ℕ) (x y : Name) (at_x : slice_get (keys_of es) i ≡ Some x) (at_y : slice_get (keys_of es) j ≡ Some y) (number : ℕ) (of_x : slice_get numbers i ≡ Some number) where
+  forth : HasEdgeFrom es numbers right 0 (length (keys_of es)) number j → HeldInIsland (graph_of es) right x y
+  forth e =
+      let t = is_there es right e.a e.place j e.edge.leads in
+      let u : Name = get_or (keys_of es) e.a [] in
+      let at_u : slice_get (keys_of es) e.a ≡ Some u = slice_get-get_or (keys_of es) e.a [] e.before in
+      let there : slice_get (keys_of es) j ≡ Some t.name = at-position (keys_of es) t.name j t.known in
+      let same : t.name ≡ y = cc in
+      let holds : (graph_of es).holds u right t.name ≡ true = holds-place es ok e.a u at_u e.place t.name t.label right t.read ∙ t.held in
+      (u, subst (λ v. (graph_of es).holds u right v ≡ true) same holds, (are.exact i e.a x u at_x at_u).0 (of_x ∙ sym e.edge.of))
+
+  back : HeldInIsland (graph_of es) right x y → HasEdgeFrom es numbers right 0 (length (keys_of es)) number j
+  back h =
+      let p = place_of (keys_of es) h.0 (well.ends h.0 right y h.1).0 in
+      let edge = place-holds es ok p.0 h.0 p.1 right y h.1 in
+      record {
+        a = p.0;
+        place = edge.0;
+        from = omega arith;
+        before = slice_get_within (keys_of es) p.0 h.0 p.1;
+        edge = record {
+          of = sym ((are.exact i p.0 x h.0 at_x p.1).1 h.2) ∙ of_x;
+          leads = target-there es right p.0 edge.0 j (record { name = y; label = edge.1; read = edge.2; held = edge.3; known = position-at (keys_of es) ok.apart j y at_y });
+        };
+      }
+
+  pub edge-exact : HasEdgeFrom es numbers right 0 (length (keys_of es)) number j ↔ CanShare (graph_of es) right x y
+  edge-exact =
+      let law = shared (graph_of es) right x y well few_vertices (place-known (keys_of es) i x at_x) (place-known (keys_of es) j y at_y) in
+      (λ e. law.1 (forth e), λ c. back (law.0 c))
+
 -- ---- what was gathered from every vertex says what can be shared
 module _ (es : Entries) (ok : IsGraph es) (well : WellFormed (graph_of es)) (shared : SharedExactly) (few_vertices : length (keys_of es) < 2 ^ 64) (numbers : List ℕ) (are : AreIslands (graph_of es) numbers) (right : Right) (held : List (List Bool)) (g : Gathers es numbers right 0 (length (keys_of es)) held) where
-  module _ (i j : ℕ) (x y : Name) (at_x : slice_get (keys_of es) i ≡ Some x) (at_y : slice_get (keys_of es) j ≡ Some y) (number : ℕ) (of_x : slice_get numbers i ≡ Some number) where
-    forth : HasEdgeFrom es numbers right 0 (length (keys_of es)) number j → HeldInIsland (graph_of es) right x y
-    forth e =
-        let t = is_there es right e.a e.place j e.edge.leads in
-        let u : Name = get_or (keys_of es) e.a [] in
-        let at_u : slice_get (keys_of es) e.a ≡ Some u = slice_get-get_or (keys_of es) e.a [] e.before in
-        let there : slice_get (keys_of es) j ≡ Some t.name = at-position (keys_of es) t.name j t.known in
-        let same : t.name ≡ y = cc in
-        let holds : (graph_of es).holds u right t.name ≡ true = holds-place es ok e.a u at_u e.place t.name t.label right t.read ∙ t.held in
-        (u, subst (λ v. (graph_of es).holds u right v ≡ true) same holds, (are.exact i e.a x u at_x at_u).0 (of_x ∙ sym e.edge.of))
-
-    back : HeldInIsland (graph_of es) right x y → HasEdgeFrom es numbers right 0 (length (keys_of es)) number j
-    back h =
-        let p = place_of (keys_of es) h.0 (well.ends h.0 right y h.1).0 in
-        let edge = place-holds es ok p.0 h.0 p.1 right y h.1 in
-        record {
-          a = p.0;
-          place = edge.0;
-          from = omega arith;
-          before = slice_get_within (keys_of es) p.0 h.0 p.1;
-          edge = record {
-            of = sym ((are.exact i p.0 x h.0 at_x p.1).1 h.2) ∙ of_x;
-            leads = target-there es right p.0 edge.0 j (record { name = y; label = edge.1; read = edge.2; held = edge.3; known = position-at (keys_of es) ok.apart j y at_y });
-          };
-        }
-
-    pub cell-exact : IsTrue (holds_over held number j) ↔ CanShare (graph_of es) right x y
-    cell-exact =
-        let law = shared (graph_of es) right x y well few_vertices (place-known (keys_of es) i x at_x) (place-known (keys_of es) j y at_y) in
-        (λ h. law.1 (forth ((g.held number j).0 h)), λ c. (g.held number j).1 (back (law.0 c)))
+  pub cell-exact : (i j : ℕ) (x y : Name) → slice_get (keys_of es) i ≡ Some x → slice_get (keys_of es) j ≡ Some y → (number : ℕ) → slice_get numbers i ≡ Some number → IsTrue (holds_over held number j) ↔ CanShare (graph_of es) right x y
+  cell-exact i j x y at_x at_y number of_x =
+      let exact = edge-exact es ok well shared few_vertices numbers are right i j x y at_x at_y number of_x in
+      (λ h. exact.0 ((g.held number j).0 h), λ c. (g.held number j).1 (exact.1 c))
 
   pub table-exact : IsPairTable (graph_of es) right (record { numbers = numbers; held = held })
   table-exact = record {

@@ -32,5 +32,6 @@ pub mod JoinedSets
 pub mod SetNumbers
 pub mod JoinedHoldings
 pub mod Gathered
+pub mod ByTarget
 pub mod Blocked
 pub mod Spreads

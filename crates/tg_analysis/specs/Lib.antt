@@ -13,3 +13,4 @@ pub mod Searches
 pub mod Holdings
 pub mod Gathered
 pub mod Tables
+pub mod ByTarget

@@ -3,6 +3,7 @@
 
 mod answers;
 mod blocks;
+mod by_target;
 mod chains;
 mod derivations;
 mod disjoint_sets;
@@ -12,6 +13,8 @@ mod flooding;
 mod gates;
 mod gathering;
 mod holdings;
+#[cfg(test)]
+mod index_tests;
 #[cfg(test)]
 mod island_tests;
 mod joining;
@@ -28,6 +31,7 @@ mod question_tests;
 mod questions;
 #[cfg(test)]
 mod set_tests;
+mod sharing_index;
 mod spreading;
 mod table_faults;
 #[cfg(test)]
@@ -44,5 +48,6 @@ pub use gates::{Gate, OpenGate};
 pub use joining::islands;
 pub use numbering::Islands;
 pub use questions::AskFault;
+pub use sharing_index::SharingIndex;
 pub use table_faults::TableFault;
 pub use tables::{MOST_WORKERS, PairTable, pair_table};

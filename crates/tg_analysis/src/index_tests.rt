@@ -1,0 +1,55 @@
+// What an index says of a graph, beside what `can_share` says.
+use crate::questions::AskFault;
+use crate::sharing_index::SharingIndex;
+use crate::test_answers::shares;
+use crate::test_graphs::{graph, name};
+use std::alloc::Global;
+use std::process::Abort;
+use std::test::Fail;
+use tg_graph::{Graph, Name, Right};
+
+fn indexed(alloc: Global, graph: &Graph, right: Right, x: Name, y: Name) -> Result<bool, AskFault> {
+    let mut index = SharingIndex::of(alloc, graph)?;
+    index.can_share(alloc, graph, right, x, y)
+}
+
+fn assert_same(rt: &impl Abort, alloc: Global, graph: &Graph, right: Right, x: Name, y: Name) {
+    assert!(rt; indexed(alloc, graph, right, x, y) == shares(alloc, graph, right, x, y));
+}
+
+// Of each two vertices, whether the index says the same.
+fn assert_agrees(rt: &impl Abort, alloc: Global, graph: &Graph, right: Right) {
+    for i in 0..graph.len() {
+        for j in 0..graph.len() {
+            if let (Some(x), Some(y)) = (graph.name_at(i), graph.name_at(j)) {
+                assert_same(rt, alloc, graph, right, x, y);
+            }
+        }
+    }
+}
+
+#[test]
+fn an_index_says_what_can_be_shared(rt: HostRuntime) -> Result<(), Fail> {
+    // two islands, a b c and d e, and f alone
+    let g = graph(
+        &rt,
+        rt.alloc(),
+        "a b c d e f",
+        "a b t, c b g, c d r, d e tg, e a w, f a re, d f r, b f e",
+    );
+    for right in &Right::ALL {
+        assert_agrees(&rt, rt.alloc(), &g, *right);
+    }
+    Ok(())
+}
+
+#[test]
+fn an_index_knows_no_stranger(rt: HostRuntime) -> Result<(), Fail> {
+    let g = graph(&rt, rt.alloc(), "a b", "a b t");
+    let (a, stranger) = (name(&rt, "a"), name(&rt, "c"));
+    let mut index = SharingIndex::of(rt.alloc(), &g)?;
+    let unknown = Err(AskFault::Unknown(stranger));
+    assert!(rt; index.can_share(rt.alloc(), &g, Right::T, a, stranger) == unknown);
+    assert!(rt; index.can_share(rt.alloc(), &g, Right::T, stranger, a) == unknown);
+    Ok(())
+}
