@@ -1,5 +1,5 @@
 -- What the calls of a seat keep.
-use Rattle.std.proofs.Common.{◌≡◌, Option, None, IfSome, ◌+◌, ◌++◌, List, [], ◌∷◌, length, take, drop, Some, All, sym, ap, subst, ◌∙◌, arith, bytes_eq}
+use Rattle.std.proofs.Common.{◌≡◌, Option, None, IfSome, ◌+◌, ◌++◌, List, [], ◌∷◌, length, take, drop, Some, All, refl, sym, ap, subst, ◌∙◌, arith, bytes_eq}
 use Rattle.std.specs.Prelude.{slice_get}
 use Rattle.std.specs.Option.{option_map}
 use Rattle.std.proofs.lemmas.List.{length-append, take-append-le, take_all, take-append-drop}
@@ -20,6 +20,7 @@ use Rattle.tg_store.specs.Answers.{IsAnswer, AreAnswers, after_step, after_steps
 use Rattle.tg_store.specs.Histories.{replay}
 use Rattle.tg_store.specs.Touches.{IsClear, step_writes}
 use Rattle.tg_store.specs.Drafted.{drafted, GainsRows, IsDraftOf}
+use Rattle.tg_store.specs.Knowing.{IsKnown}
 use Rattle.tg_store.specs.Seats.{IsSessionOn, Rests}
 use Rattle.tg_store.proofs.Ordered.{after_steps-push, AreAnswers-push, replay-append, replay-next, replay-push}
 use Rattle.tg_store.proofs.Commuting.{rows-more, draft-clear, answers-clear}
@@ -35,25 +36,36 @@ draft-push base steps old new a d sound fits next rows = record {
 }
 
 -- a session with one step more
-pub session-push : (base : Entries) (o p : OpenSession) (a : Answered) → IsSessionOn base o → p.kept.items ≡ o.kept.items ++ a ∷ [] → IsDraftOf base (o.kept.items ++ a ∷ []) p.draft → IsAnswer (drafted base o.draft) a.step a.reply → IsNamedStep a.step → IsSessionOn base p
-session-push base o p a on e drawn told named = record {
+pub session-push : (base : Entries) (o p : OpenSession) (a : Answered) → IsSessionOn base o → p.kept.items ≡ o.kept.items ++ a ∷ [] → IsDraftOf base (o.kept.items ++ a ∷ []) p.draft → IsAnswer (drafted base o.draft) a.step a.reply → IsNamedStep a.step → IsKnown base p.draft p.known → IsSessionOn base p
+session-push base o p a on e drawn told named known = record {
   drawn = subst (λ steps. IsDraftOf base steps p.draft) (sym e) drawn;
   answers = subst (AreAnswers (graph_of base)) (sym e) (AreAnswers-push (graph_of base) o.kept.items a on.answers (subst (λ g. IsAnswer g a.step a.reply) on.drawn.stands told));
   named = subst (All (λ a. IsNamedStep a.step)) (sym e) (All-push (λ a. IsNamedStep a.step) o.kept.items a on.named named);
+  known = known;
 }
 
 -- a session that rests on a record as well
-pub session-clear : (base : Entries) (committed : List Answered) (theirs : Changes) (o : OpenSession) → IsDraftOf base committed theirs → IsSessionOn base o → IsClear (graph_of base) committed (Some o.kept.items) → IsDistinct bytes_eq (keys_of base) → IsSessionOn (laid_over base theirs) o
-session-clear base committed theirs o le on clear distinct = record {
+pub session-clear : (base : Entries) (committed : List Answered) (theirs : Changes) (o : OpenSession) → IsDraftOf base committed theirs → IsSessionOn base o → IsClear (graph_of base) committed (Some o.kept.items) → IsDistinct bytes_eq (keys_of base) → o.known ≡ None → IsSessionOn (laid_over base theirs) o
+session-clear base committed theirs o le on clear distinct unknown = record {
   drawn = draft-clear base committed o.kept.items theirs o.draft le on.drawn clear distinct on.answers;
   answers = answers-clear base committed o.kept.items theirs o.draft le on.drawn clear distinct on.answers;
   named = on.named;
+  known = subst (IsKnown (laid_over base theirs) o.draft) (sym unknown) tt;
 }
 
+-- a session of which nothing is known
+abbrev pub unknowing : OpenSession → OpenSession
+unknowing o = record { draft = o.draft; kept = o.kept; known = None }
+
+-- the same, where it has nothing known from then on
+pub unknowing-clear : (base : Entries) (committed : List Answered) (theirs : Changes) (o : OpenSession) → IsDraftOf base committed theirs → IsSessionOn base o → IsClear (graph_of base) committed (Some o.kept.items) → IsDistinct bytes_eq (keys_of base) → IsSessionOn (laid_over base theirs) (unknowing o)
+unknowing-clear base committed theirs o le on clear distinct =
+    session-clear base committed theirs (unknowing o) le (record { drawn = on.drawn; answers = on.answers; named = on.named; known = tt }) clear distinct refl
+
 pub seat-clear : (base : Entries) (committed : List Answered) (theirs : Changes) (session : Option OpenSession) → IsDraftOf base committed theirs → IfSome session (IsSessionOn base)
-    → IsClear (graph_of base) committed (option_map (λ (o : OpenSession). o.kept.items) session) → IsDistinct bytes_eq (keys_of base) → IfSome session (IsSessionOn (laid_over base theirs))
-seat-clear base committed theirs None le on clear distinct = tt
-seat-clear base committed theirs (Some o) le on clear distinct = session-clear base committed theirs o le on clear distinct
+    → IsClear (graph_of base) committed (option_map (λ (o : OpenSession). o.kept.items) session) → IsDistinct bytes_eq (keys_of base) → IfSome session (λ (o : OpenSession). o.known ≡ None) → IfSome session (IsSessionOn (laid_over base theirs))
+seat-clear base committed theirs None le on clear distinct unknown = tt
+seat-clear base committed theirs (Some o) le on clear distinct unknown = session-clear base committed theirs o le on clear distinct unknown
 
 -- a seat that has taken in one record more
 pub rests-next : (g : ProtectionGraph) (history : List Record) (s t : SeatState) (r : Record) → slice_get history s.taken ≡ Some r → t.taken ≡ s.taken + 1 → graph_of t.graph ≡ after_steps (graph_of s.graph) r.steps → Rests g history s → Rests g history t

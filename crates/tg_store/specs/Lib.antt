@@ -5,6 +5,7 @@ pub mod Histories
 pub mod Touches
 pub mod Told
 pub mod Drafted
+pub mod Knowing
 pub mod Worlds
 pub mod Seats
 pub mod Trails

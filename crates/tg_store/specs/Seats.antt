@@ -15,17 +15,19 @@ use Rattle.tg_store.specs.StepWords.{IsNamedStep}
 use Rattle.tg_store.specs.Answers.{AreAnswers}
 use Rattle.tg_store.specs.Histories.{replay, count_of}
 use Rattle.tg_store.specs.Drafted.{IsDraftOf}
+use Rattle.tg_store.specs.Knowing.{IsKnown}
 use Rattle.tg_store.specs.Worlds.{SeatView}
 
 -- what the world shows of a seat
 abbrev pub seen_seat : SeatState → SeatView
 seen_seat s = record { taken = s.taken; session = option_map (λ o. o.kept.items) s.session }
 
--- the session stands on the base: its draft is that of its steps there, and its replies are answers
+-- the session stands on the base: its draft is that of its steps there, its replies are answers, and what it knows is of that draft
 pub record IsSessionOn (base : Entries) (o : OpenSession) : Type 0 where
   pub drawn : IsDraftOf base o.kept.items o.draft
   pub answers : AreAnswers (graph_of base) o.kept.items
   pub named : All (λ a. IsNamedStep a.step) o.kept.items
+  pub known : IsKnown base o.draft o.known
 
 -- an open session stands on its seat's graph
 abbrev pub IsConsistent : SeatState → Type 0

@@ -16,6 +16,7 @@ mod events;
 #[cfg(test)]
 mod famine_tests;
 mod halls;
+mod knowing;
 #[cfg(test)]
 mod memory_tests;
 mod outcomes;

@@ -10,11 +10,12 @@ ghost use Rattle.tg_store.specs.Answers.{lack_of_room, session_refusal, IsAnswer
 ghost use Rattle.tg_store.specs.Touches.{step_writes};
 ghost use Rattle.tg_store.specs.Trails.{LeadsBy, vertices_at};
 ghost use Rattle.tg_store.specs.Drafted.{drafted, GainsRows, IsDraftOf};
+ghost use Rattle.tg_store.specs.Knowing.{IsKnown};
 
 use crate::answers::Answered;
+use crate::knowing::{self, Known};
 use crate::records::Record;
 use std::alloc::{AllocError, Global};
-use tg_analysis::{AskFault, can_share};
 use tg_graph::{Draft, Graph, MOST_VERTICES, Name, Refusal, Reply, Right, Rule, RuleFault, Step};
 
 // Whether the rule would create a vertex for which there is no room.
@@ -53,6 +54,7 @@ pub fn carry_out(base: &Graph, draft: &mut Draft, rule: &Rule) -> Result<Reply, 
         (GainsRows draft.old (step_writes (drafted base.now draft.old) (Step.Do rule.now))
         draft.new) }
     ensures err { OnErr result (draft.new ≡ draft.old) }
+    ensures kept { IfOk result (λ reply. (reply ≡ Reply.Done → ⊥) → draft.new ≡ draft.old) }
     ensures fits { Fits base.now draft.new }
 {
     if lacks_room(base, draft, rule) {
@@ -96,40 +98,71 @@ fn answer_holds(base: &Graph, draft: &Draft, right: Right, x: Name, y: Name) -> 
     }
 }
 
-// Answers whether x can come to have a right over y.
+// Answers whether x can come to have a right over y. What is known of the draft serves for it, and is
+// made known where it is not.
 fn answer_share(
     alloc: Global,
     base: &Graph,
     draft: &Draft,
+    known: &mut Option<Known>,
     right: Right,
     x: Name,
     y: Name,
 ) -> Result<Reply, AllocError>
-    requires { Fits base.now draft.now }
-    ensures { IfOk result
+    requires fits { Fits base.now draft.now }
+    requires known { IsKnown base.now draft.now known.old }
+    ensures reply { IfOk result
         (λ reply. IsAnswer (drafted base.now draft.now) (Step.Share right x y) reply) }
+    ensures known { IsKnown base.now draft.now known.new }
 {
     if let Some(refusal) = unknown_of_two(base, draft, x, y) {
         return Ok(Reply::Refused(refusal));
     }
-    let whole = draft.whole(base)?;
-    match can_share(alloc, &whole, right, x, y) {
-        Ok(true) => Ok(Reply::Yes),
-        Ok(false) => Ok(Reply::No),
-        // both names are vertices, so only memory can be wanting
-        Err(AskFault::Unknown(_) | AskFault::TooLarge | AskFault::Memory) => Err(AllocError),
-    }
+    let mut now = knowing::learn(alloc, base, draft, known.take())?;
+    let reply = now.reply(alloc, right, x, y);
+    *known = Some(now);
+    reply
 }
 
-/// Answers a step, and carries it out. An error changes nothing.
+// Carries out a rule. What was known of the draft is no longer known where it changes it.
+fn carry_out_known(
+    base: &Graph,
+    draft: &mut Draft,
+    known: &mut Option<Known>,
+    rule: &Rule,
+) -> Result<Reply, AllocError>
+    requires fits { Fits base.now draft.old }
+    requires named { IsNamed (rights_of rule.now) }
+    requires known { IsKnown base.now draft.old known.old }
+    ensures reply { IfOk result
+        (λ reply. IsAnswer (drafted base.now draft.old) (Step.Do rule.now) reply) }
+    ensures after { OnOk result
+        (drafted base.now draft.new ≡ after_step (drafted base.now draft.old) (Step.Do rule.now)) }
+    ensures rows { OnOk result
+        (GainsRows draft.old (step_writes (drafted base.now draft.old) (Step.Do rule.now))
+        draft.new) }
+    ensures err { OnErr result (draft.new ≡ draft.old) }
+    ensures fits { Fits base.now draft.new }
+    ensures known { IsKnown base.now draft.new known.new }
+{
+    let reply = carry_out(base, draft, rule)?;
+    if let Reply::Done = reply {
+        *known = None;
+    }
+    Ok(reply)
+}
+
+/// Answers a step, and carries it out. An error changes nothing, but what is known of the draft.
 pub fn answer(
     alloc: Global,
     base: &Graph,
     draft: &mut Draft,
+    known: &mut Option<Known>,
     step: &Step,
 ) -> Result<Reply, AllocError>
     requires fits { Fits base.now draft.old }
     requires named { IsNamedStep step.now }
+    requires known { IsKnown base.now draft.old known.old }
     ensures reply { IfOk result (λ reply. IsAnswer (drafted base.now draft.old) step.now reply) }
     ensures after { OnOk result
         (drafted base.now draft.new ≡ after_step (drafted base.now draft.old) step.now) }
@@ -137,11 +170,12 @@ pub fn answer(
         (GainsRows draft.old (step_writes (drafted base.now draft.old) step.now) draft.new) }
     ensures err { OnErr result (draft.new ≡ draft.old) }
     ensures fits { Fits base.now draft.new }
+    ensures known { IsKnown base.now draft.new known.new }
 {
     match *step {
-        Step::Do(rule) => carry_out(base, draft, &rule),
+        Step::Do(rule) => carry_out_known(base, draft, known, &rule),
         Step::Holds { right, x, y } => Ok(answer_holds(base, draft, right, x, y)),
-        Step::Share { right, x, y } => answer_share(alloc, base, draft, right, x, y),
+        Step::Share { right, x, y } => answer_share(alloc, base, draft, known, right, x, y),
     }
 }
 

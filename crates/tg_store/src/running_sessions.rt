@@ -116,7 +116,10 @@ impl Session {
         let _ = seat.taken();
         let _ = seat.graph().len();
         match seat.take_in(draft) {
-            Ok(()) => Attempt::Further(Session { seat, staged }),
+            Ok(()) => {
+                let staged = staged.unknowing();
+                Attempt::Further(Session { seat, staged })
+            }
             Err(AllocError) => Attempt::Over(Committed::Again(Session { seat, staged })),
         }
     }
@@ -149,7 +152,7 @@ impl Session {
         ensures { AttemptSays self result }
     {
         let Session { seat, staged } = self;
-        let OpenSession { draft, kept } = staged;
+        let (draft, kept) = staged.into_parts();
         let _ = seat.taken();
         let record = Record {
             seat: seat.number(),
@@ -161,7 +164,7 @@ impl Session {
         match offered {
             Offered::Won(seat, place) => Attempt::Over(Committed::Done(seat, Receipt { place })),
             Offered::Back(seat, draft, answer) => {
-                let staged = OpenSession { draft, kept };
+                let staged = OpenSession::of_parts(draft, kept);
                 match answer {
                     Put::Won(_) => unreachable!(),
                     Put::Full => Attempt::Over(Committed::Refused(seat, CommitFault::JournalFull)),

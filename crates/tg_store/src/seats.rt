@@ -1,7 +1,9 @@
 //! The seats of a hall.
 ghost use Rattle.std.specs.Prelude.{◌≡◌, ◌≢◌, ◌<◌, ◌≤◌, ◌∷◌, ◌++◌, [], List, All, IsSome, IfOk, OnOk, OnErr, IfSome, Some, None, length, slice_get, vec_len, not, is_none, false};
+ghost use Rattle.std.specs.Option.{option_map};
 ghost use Rattle.std.specs.Vec.{vec_capacity};
 ghost use Rattle.tg_graph.specs.Graphs.{ProtectionGraph};
+ghost use Rattle.tg_graph.specs.Rows.{Entries};
 ghost use Rattle.tg_graph.specs.GraphOf.{graph_of};
 ghost use Rattle.tg_graph.specs.Drafts.{ArePositionsOf};
 ghost use Rattle.tg_graph.specs.Limits.{most_cells};
@@ -11,10 +13,12 @@ ghost use Rattle.tg_store.specs.Answers.{IsAnswer, AreAnswers, after_steps};
 ghost use Rattle.tg_store.specs.Histories.{count_of, replay};
 ghost use Rattle.tg_store.specs.Touches.{IsClear};
 ghost use Rattle.tg_store.specs.Trails.{HasRoom, SameTrail, IsTrail, LeadsBy, TakesOver, vertices_at};
+ghost use Rattle.tg_store.specs.Seats.{IsSessionOn};
 ghost use Rattle.tg_store.specs.Worlds.{is_short_of_memory, one_further, fresh_seat, Begins, TakesIn, Learns, Stages, Aborts, Joins, Puts};
 
 use crate::answers::{Answered, Steps};
 use crate::events::{HallFault, HallReply};
+use crate::knowing::Known;
 use crate::records::Record;
 use crate::trails::Trail;
 use crate::{replays, spoilers};
@@ -22,11 +26,13 @@ use std::alloc::{AllocError, Global};
 use std::mem;
 use tg_graph::{Draft, Graph, Refusal, Reply, Rule, Step};
 
-/// An open session: its draft over the graph of its seat, and its steps with their replies.
+/// An open session: its draft over the graph of its seat, its steps with their replies, and what is
+/// known of the graph that the draft stands for.
 #[derive(Drop)]
 pub struct OpenSession {
     pub(crate) draft: Draft,
     pub(crate) kept: Vec<Answered>,
+    pub(crate) known: Option<Known>,
 }
 
 /// A seat: how many records it has taken in, the graph that they lead to, how many sessions it has
@@ -62,7 +68,37 @@ impl OpenSession {
         OpenSession {
             draft: base.draft(),
             kept: Vec::new(alloc),
+            known: None,
         }
+    }
+
+    /// The session with a draft and steps, where nothing is known of the graph that the draft stands
+    /// for.
+    pub(crate) fn of_parts(draft: Draft, kept: Vec<Answered>) -> OpenSession
+        ensures { result ≡ record { draft = draft; kept = kept; known = None } }
+    {
+        OpenSession {
+            draft,
+            kept,
+            known: None,
+        }
+    }
+
+    /// The draft, and the steps.
+    pub(crate) fn into_parts(self) -> (Draft, Vec<Answered>)
+        ensures draft { result.0 ≡ self.draft }
+        ensures kept { result.1 ≡ self.kept }
+    {
+        let OpenSession { draft, kept, .. } = self;
+        (draft, kept)
+    }
+
+    /// The same session, where nothing is known of the graph that its draft stands for.
+    pub(crate) fn unknowing(self) -> OpenSession
+        ensures { result ≡ record { draft = self.draft; kept = self.kept; known = None } }
+    {
+        let (draft, kept) = self.into_parts();
+        OpenSession::of_parts(draft, kept)
     }
 
     // Answers a step, and keeps it with its reply. An error changes no step.
@@ -80,13 +116,26 @@ impl OpenSession {
     {
         self.kept.reserve(1)?;
         let alloc = *self.kept.allocator();
-        let outcome = replays::answer(alloc, base, &mut self.draft, step);
+        let outcome = replays::answer(alloc, base, &mut self.draft, &mut self.known, step);
         // `created` says that it is a draft
         let _ = self.draft.created();
         if let Ok(reply) = &outcome {
             keep(&mut self.kept, *step, *reply);
         }
         outcome
+    }
+}
+
+// The same session, if there is one, where nothing is known of the graph that its draft stands for.
+fn unknowing(session: Option<OpenSession>) -> Option<OpenSession>
+    ensures seen { option_map (λ o. o.kept.items) result ≡ option_map (λ o. o.kept.items) session }
+    ensures unknown { IfSome result (λ o. o.known ≡ None) }
+    ensures on { (base : Entries) → IfSome session (IsSessionOn base) → IfSome result
+        (IsSessionOn base) }
+{
+    match session {
+        Some(session) => Some(session.unknowing()),
+        None => None,
     }
 }
 
@@ -246,6 +295,7 @@ impl SeatState {
         // no vertex stands twice in the graph: this `len` says
         let _ = self.graph.len();
         let draft = replays::with_steps(&self.graph, committed)?;
+        self.session = unknowing(self.session.take());
         replays::merge(&mut self.graph, draft)?;
         Ok(())
     }
@@ -367,11 +417,11 @@ impl SeatState {
         };
         let place = records.len();
         if let Some(session) = self.session.take() {
-            let OpenSession { draft, kept } = session;
+            let (draft, kept) = session.into_parts();
             match self.graph.merge(draft) {
                 Ok(()) => {}
                 Err(draft) => {
-                    self.session = Some(OpenSession { draft, kept });
+                    self.session = Some(OpenSession::of_parts(draft, kept));
                     return HallReply::Refused(HallFault::Memory);
                 }
             }

@@ -9,7 +9,7 @@ use Rattle.tg_store.proofs.Numbers.{count-own}
 use Rattle.tg_store.proofs.SeatLemmas.{rests-put}
 use Rattle.tg_graph.specs.Drafts.{ArePositionsOf}
 use Rattle.tg_store.specs.declared.seats.OpenSession.{OpenSession}
-use Rattle.tg_store.specs.Drafted.{IsDraftOf}
+use Rattle.tg_store.specs.Drafted.{drafted, IsDraftOf}
 use Rattle.tg_store.specs.Trails.{Notes}
 use Rattle.tg_store.proofs.TrailLemmas.{trail-same, trail-joined}
 use Rattle.tg_store.proofs.seats.SeatState.join.Goals as goal
@@ -36,7 +36,7 @@ returns-clause-rests c g h =
           rests-put g c.args.records.now.items c.match-take.records.items old c.match-take.self r c.requires.all_taken
           (ap (λ v. v.items) w.records-is ∙ w.push_reserved.ensures.items ∙ ap (λ xs. xs ++ r ∷ []) c.make_room.ensures.records)
           (ap (λ (s : SeatState). s.taken) w.self-is)
-          (ap (λ (s : SeatState). graph_of s.graph) w.self-is ∙ ap graph_of w.in-Ok-merge.ensures.merged ∙ on.drawn.stands ∙ ap (after_steps (graph_of old.graph)) (sym w.from_vec.ensures)) h
+          (ap (λ (s : SeatState). graph_of s.graph) w.self-is ∙ ap graph_of w.in-Ok-merge.ensures.merged ∙ ap (drafted old.graph) w.into_parts-draft.ensures.draft ∙ on.drawn.stands ∙ ap (after_steps (graph_of old.graph)) (sym (ap (λ v. v.items) w.into_parts-draft.ensures.kept) ∙ sym w.from_vec.ensures)) h
       | in_default-take w ↦ absurd (true≢false (sym (subst IsSome (sym c.take.ensures.value ∙ w.in_default-take.is) c.requires.open)))
     ]
 
@@ -59,7 +59,7 @@ returns-clause-trail c g rest h =
           (ap (λ v. v.items) w.records-is ∙ w.push_reserved.ensures.items ∙ ap (λ xs. xs ++ r ∷ []) c.make_room.ensures.records)
           c.make_room.ensures.trail
           (subst (λ u. Notes c.make_room.new.trail ps u) (sym w.trail-is) w.note.ensures)
-          (subst (λ steps. IsDraftOf old.graph steps w.in-Some.session.draft) (sym w.from_vec.ensures) on.drawn)
+          (subst (λ steps. IsDraftOf old.graph steps w.in-Some.session.draft) (sym (ap (λ v. v.items) w.into_parts-draft.ensures.kept) ∙ sym w.from_vec.ensures) on.drawn)
           (subst (λ ps. ArePositionsOf old.graph w.in-Some.session.draft ps) (sym w.as_slice.ensures.value) at)
           rest h
       | in_default-take w ↦ absurd (true≢false (sym (subst IsSome (sym c.take.ensures.value ∙ w.in_default-take.is) c.requires.open)))
