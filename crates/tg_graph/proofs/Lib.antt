@@ -15,6 +15,7 @@ pub mod RowsOf
 pub mod NewNames
 pub mod Drafts
 pub mod EdgeLists
+pub mod RisingNames
 pub mod EdgesToAll
 pub mod DraftLaws
 pub mod NameLanes

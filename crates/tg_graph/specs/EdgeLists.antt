@@ -1,5 +1,5 @@
 -- Edges whose targets are numbers of names.
-use Rattle.std.specs.Prelude.{◌≡◌, ℕ, ◌<◌, ◌/◌, ◌%◌, length, slice_index_or, List, [], ◌++◌, map, unwrap_or}
+use Rattle.std.specs.Prelude.{◌≡◌, ℕ, ◌<◌, ◌≤◌, ◌-◌, ◌/◌, ◌%◌, Some, length, slice_get, slice_index_or, List, [], ◌++◌, map, unwrap_or}
 use Rattle.std.specs.List.{AllByRecursion}
 use Rattle.tg_graph.specs.declared.right_sets.Rights.{Rights}
 use Rattle.tg_graph.specs.declared.targets.Targets.{Targets}
@@ -28,6 +28,20 @@ edges_of names edges = map (named names) edges
 -- the number of each edge is that of a name
 abbrev pub AreWithin : List Name → List Edge → Type 0
 AreWithin names edges = AllByRecursion (λ edge. number_of edge < length names) edges
+
+-- the edge at the place has the number
+abbrev pub HasNumber : List Edge → ℕ → ℕ → Type 0
+HasNumber edges number place = (edge : Edge) × (slice_get edges place ≡ Some edge) × (number_of edge ≡ number)
+
+-- the edge in front of the place, if there is one, has a lesser number
+abbrev pub IsAbove : List Edge → ℕ → ℕ → Type 0
+IsAbove edges number place = (0 < place → (edge : Edge) × (slice_get edges (place - 1) ≡ Some edge) × (number_of edge < number))
+
+-- the number goes to the place: a lesser one in front of it, and a greater one there, if there are such
+pub record IsNumberGap (edges : List Edge) (number place : ℕ) : Type 0 where
+  pub in_range : place ≤ length edges
+  pub lesser : IsAbove edges number place
+  pub greater : (edge : Edge) → slice_get edges place ≡ Some edge → number < number_of edge
 
 -- names come behind those that are there
 pub record Extends (old new : List Name) : Type 0 where

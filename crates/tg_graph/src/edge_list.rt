@@ -1,7 +1,12 @@
 //! The edges out of one vertex, in the shorter of two forms.
-ghost use Rattle.std.specs.Prelude.{◌≡◌, ◌<◌, ◌≤◌, [], ◌∷◌, ◌++◌, if◌then◌else◌, IfOk, OnOk, OnErr, length, slice_get, slice_index_or, slice_set};
+ghost use Rattle.std.specs.Prelude.{◌≡◌, ◌<◌, ◌≤◌, [], ◌∷◌, ◌++◌, if◌then◌else◌, IfOk, IfErr, IfSome, OnOk, OnErr, length, slice_get, slice_index_or, slice_set};
 ghost use Rattle.std.specs.List.{insert, remove};
+ghost use Rattle.std.specs.Ordering.{nat_cmp};
+ghost use Rattle.std.specs.Cmp.Lexicographic.{slice_cmp};
+ghost use Rattle.std.specs.List.Sorted.{IsStrictlySortedBy};
+ghost use Rattle.std.specs.Map.{keys_of};
 ghost use Rattle.tg_graph.specs.declared.right_sets.Rights.{Rights};
+ghost use Rattle.tg_graph.specs.Rows.{IsPlaceOf, IsGapFor};
 
 use crate::edges_to_all::EdgesToAll;
 use crate::listed_edges::ListedEdges;
@@ -95,6 +100,24 @@ impl EdgeList {
         match &self.form {
             Form::Listed(edges) => edges.likely_place(target),
             Form::ToAll(edges) => edges.likely_place(target),
+        }
+    }
+
+    /// Where the edge to a vertex, whose name may have this number, is, or would go, where numbers of
+    /// names alone tell it.
+    #[inline(always)]
+    pub fn place_by_number(
+        &self,
+        target: Name,
+        likely: Option<usize>,
+    ) -> Option<Result<usize, usize>>
+        requires { IsStrictlySortedBy (slice_cmp nat_cmp) (keys_of self.now) }
+        ensures found { IfSome result (λ place. IfOk place (IsPlaceOf self.now target)) }
+        ensures absent { IfSome result (λ place. IfErr place (IsGapFor self.now target)) }
+    {
+        match &self.form {
+            Form::Listed(edges) => edges.place_by_number(target, likely),
+            Form::ToAll(_) => None,
         }
     }
 

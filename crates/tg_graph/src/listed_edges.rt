@@ -1,7 +1,13 @@
 //! The edges out of one vertex: four bytes for an edge whose target's name is shared.
-ghost use Rattle.std.specs.Prelude.{◌≡◌, ◌<◌, ◌≤◌, ◌+◌, [], ◌∷◌, ◌++◌, if◌then◌else◌, Some, IfOk, OnOk, OnErr, is_ok, length, slice_get, slice_index_or, slice_set};
+ghost use Rattle.std.specs.Prelude.{◌≡◌, ◌<◌, ◌≤◌, ◌+◌, [], ◌∷◌, ◌++◌, if◌then◌else◌, true, Some, IfOk, IfErr, IfSome, OnOk, OnErr, is_ok, length, slice_get, slice_index_or, slice_set};
 ghost use Rattle.std.specs.List.{insert, remove};
 ghost use Rattle.tg_graph.specs.declared.right_sets.Rights.{Rights};
+ghost use Rattle.tg_graph.specs.EdgeLists.{HasNumber, IsAbove, IsNumberGap};
+ghost use Rattle.std.specs.Ordering.{nat_cmp};
+ghost use Rattle.std.specs.Cmp.Lexicographic.{slice_cmp};
+ghost use Rattle.std.specs.List.Sorted.{IsStrictlySortedBy};
+ghost use Rattle.std.specs.Map.{keys_of};
+ghost use Rattle.tg_graph.specs.Rows.{IsPlaceOf, IsGapFor};
 ghost use Rattle.tg_graph.specs.Sets.{IsNamed};
 
 use crate::names::Name;
@@ -62,32 +68,66 @@ impl Edge {
     }
 }
 
-// How many of the edges have lesser numbers. No branch depends on them, so that the processor has
-// nothing to guess.
-fn count_below(edges: &[Edge], number: u32) -> u32 {
+// How many of the edges have this number of their own bits or more. No branch depends on them, so that
+// the processor has nothing to guess.
+fn count_from(edges: &[Edge], bits: u32) -> u32 {
     let mut count: u32 = 0;
     for edge in edges {
-        count = count.wrapping_add(u32::from(edge.bits / 256 < number));
+        count = count.wrapping_add(u32::from(edge.bits >= bits));
     }
     count
 }
 
-// The same of edges that are mostly in the order of their numbers: halves of many are left out, and few
-// are counted.
+// How many of the edges, which are mostly in the order of their numbers, have lesser numbers: halves of
+// many are left out, and of the few that are left those are counted that have no lesser ones.
 fn count_in_order(edges: &[Edge], number: u32) -> usize {
+    // an edge with a lesser number has lesser bits
+    let bits = number.wrapping_mul(256);
     let mut few = edges;
     let mut below: usize = 0;
     while few.len() > FEW_EDGES {
         let (front, back) = few.split_at(few.len() / 2);
         few = match back.first() {
-            Some(edge) if edge.bits / 256 < number => {
+            Some(edge) if edge.bits < bits => {
                 below = below.wrapping_add(front.len());
                 back
             }
             _ => front,
         };
     }
-    below.wrapping_add(count_below(few, number) as usize)
+    let above = count_from(few, bits) as usize;
+    below.wrapping_add(few.len()).wrapping_sub(above)
+}
+
+// Whether each edge in front of a place has a lesser number, where numbers rise.
+fn is_above(edges: &[Edge], place: usize, number: usize) -> bool
+    ensures { result ≡ true → IsAbove edges.now number place }
+{
+    if place == 0 {
+        return true;
+    }
+    match edges.get(place - 1) {
+        Some(edge) => edge.number() < number,
+        None => false,
+    }
+}
+
+// Where the edge with a number is, or would go, where numbers rise and the place is found at once.
+fn place_of_number(edges: &[Edge], number: usize) -> Option<Result<usize, usize>>
+    ensures found { IfSome result (λ place. IfOk place (HasNumber edges.now number)) }
+    ensures absent { IfSome result (λ place. IfErr place (IsNumberGap edges.now number)) }
+{
+    let place = count_in_order(edges, u32::try_from(number).ok()?);
+    match edges.get(place) {
+        Some(edge) if edge.number() == number => return Some(Ok(place)),
+        Some(edge) if edge.number() < number => return None,
+        _ => {}
+    }
+    if is_above(edges, place, number) {
+        Some(Err(place))
+    } else {
+        None
+    }
 }
 
 // Puts an edge in at a place. Those behind it are moved all at once.
@@ -189,9 +229,25 @@ impl ListedEdges {
     /// Where the edge to a vertex mostly is, or would go: behind the edges with lesser numbers, as names
     /// have their numbers in name order. It decides no answer.
     pub fn likely_place(&self, target: Name) -> Option<usize> {
-        let number = self.targets.shared()?.likely_number(target)?;
+        let number = self.targets.shared()?.found_at_once(target)?;
         let number = u32::try_from(number).ok()?;
         Some(count_in_order(self.edges.as_slice(), number))
+    }
+
+    /// Where the edge to a vertex is, or would go, where numbers alone tell it: no name but that of the
+    /// vertex is looked at, which may have this number.
+    #[inline(always)]
+    pub fn place_by_number(
+        &self,
+        target: Name,
+        likely: Option<usize>,
+    ) -> Option<Result<usize, usize>>
+        requires { IsStrictlySortedBy (slice_cmp nat_cmp) (keys_of self.now) }
+        ensures found { IfSome result (λ place. IfOk place (IsPlaceOf self.now target)) }
+        ensures absent { IfSome result (λ place. IfErr place (IsGapFor self.now target)) }
+    {
+        let number = self.targets.rising_number(target, likely)?;
+        place_of_number(self.edges.as_slice(), number)
     }
 
     /// The position that the target of the edge at a place mostly has. It decides no answer.

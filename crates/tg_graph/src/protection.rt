@@ -532,6 +532,23 @@ impl Graph {
         }
     }
 
+    /// The number that a name mostly has among those that rows share, by which `rights_near` finds the
+    /// edges to its vertex sooner. It decides no answer.
+    pub fn likely_number(&self, name: Name) -> Option<usize> {
+        self.names.as_ref()?.likely_number(name)
+    }
+
+    /// The same as `rights_at`, which is found sooner where the likely number of y is given.
+    pub fn rights_near(&self, position: usize, y: Name, likely: Option<usize>) -> Rights
+        ensures rights { result ≡ label_in (row_number self.now position) y }
+        ensures named { IsNamed result }
+    {
+        match self.rows.get_index(position) {
+            Some((_, row)) => row.edges().label_near(y, likely),
+            None => Rights::empty(),
+        }
+    }
+
     /// A graph with the same vertices at the same positions, and the same edges. It shares each row
     /// with this one until the row is changed in one of them, so it costs time and memory in the
     /// number of vertices.

@@ -173,9 +173,10 @@ impl Row {
         }
     }
 
-    /// Where the edge to y is, or where it would go. It is found at once where there are edges to all
-    /// the vertices whose names the rows share.
-    pub fn place(&self, y: Name) -> Result<usize, usize>
+    // Where the edge to y is, or where it would go, found by names. It is found at once where there are
+    // edges to all the vertices whose names the rows share.
+    #[inline(never)]
+    fn place_by_names(&self, y: Name) -> Result<usize, usize>
         ensures found { IfOk result (IsPlaceOf self.now y) }
         ensures absent { IfErr result (IsGapFor self.now y) }
         ensures row { IsRow self.now }
@@ -185,6 +186,29 @@ impl Row {
             Some(place) if self.is_gap(place, y) => Err(place),
             _ => self.place_by_halves(y),
         }
+    }
+
+    // Where the edge to y is, or where it would go. Mostly the numbers of names tell it, and names are
+    // looked at where they do not. That of y may be known; it decides no answer.
+    #[inline(always)]
+    fn place_near(&self, y: Name, likely: Option<usize>) -> Result<usize, usize>
+        ensures found { IfOk result (IsPlaceOf self.now y) }
+        ensures absent { IfErr result (IsGapFor self.now y) }
+        ensures row { IsRow self.now }
+    {
+        match self.edges.place_by_number(y, likely) {
+            Some(place) => place,
+            None => self.place_by_names(y),
+        }
+    }
+
+    /// Where the edge to y is, or where it would go.
+    pub fn place(&self, y: Name) -> Result<usize, usize>
+        ensures found { IfOk result (IsPlaceOf self.now y) }
+        ensures absent { IfErr result (IsGapFor self.now y) }
+        ensures row { IsRow self.now }
+    {
+        self.place_near(y, None)
     }
 
     // Whether each target in front of the place is below y.
@@ -242,15 +266,23 @@ impl Row {
         self.edges.label(place)
     }
 
+    /// The label of the edge to a vertex, whose name may have this number among those that rows share.
+    pub fn label_near(&self, y: Name, likely: Option<usize>) -> Rights
+        ensures value { result ≡ label_in self.now y }
+        ensures named { IsNamed result }
+    {
+        match self.place_near(y, likely) {
+            Ok(place) => self.label_at(place, y),
+            Err(_place) => Rights::empty(),
+        }
+    }
+
     /// The label of the edge to a vertex.
     pub fn label(&self, y: Name) -> Rights
         ensures value { result ≡ label_in self.now y }
         ensures named { IsNamed result }
     {
-        match self.place(y) {
-            Ok(place) => self.label_at(place, y),
-            Err(_place) => Rights::empty(),
-        }
+        self.label_near(y, None)
     }
 
     // Writes the label of the edge to y, which is at the place.

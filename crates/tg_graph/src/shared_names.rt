@@ -1,5 +1,8 @@
 //! Names by number, which many rows share.
-ghost use Rattle.std.specs.Prelude.{◌≡◌, Some, IfSome, length, slice_get};
+ghost use Rattle.std.specs.Prelude.{◌≡◌, true, Some, IfSome, length, slice_get};
+ghost use Rattle.std.specs.Ordering.{nat_cmp};
+ghost use Rattle.std.specs.Cmp.Lexicographic.{slice_cmp};
+ghost use Rattle.std.specs.List.Sorted.{IsStrictlySortedBy};
 ghost use Rattle.std.specs.Arc.{arc_value};
 
 use crate::names::Name;
@@ -28,6 +31,8 @@ struct NameTable {
     positions: Vec<u32>,
     // The numbers of the names by position.
     numbers: Vec<u32>,
+    // Whether each name was found to be above the one before it, so that names rise with their numbers.
+    rise: bool,
     // A name whose slot has another's stands at the slot beside it. Where that has another's too, the
     // name is looked for in the order, so that no choice of names makes a look-up dear.
     slots: Vec<Slot>,
@@ -45,7 +50,15 @@ impl Model for SharedNames {
 
     ghost Value = { List (List ℕ) };
 
+    ghost use Rattle.std.specs.Prelude.{◌≡◌, true};
+    ghost use Rattle.std.specs.Ordering.{nat_cmp};
+    ghost use Rattle.std.specs.Cmp.Lexicographic.{slice_cmp};
+    ghost use Rattle.std.specs.List.Sorted.{IsStrictlySortedBy};
+
     ghost view = { λ s. (arc_value (arc_value s.table).names).items };
+
+    ghost invariant = { λ s. (arc_value s.table).rise ≡ true
+        → IsStrictlySortedBy (slice_cmp nat_cmp) (arc_value (arc_value s.table).names).items };
 }
 
 impl Clone for SharedNames {
@@ -58,6 +71,18 @@ impl Clone for SharedNames {
             table: Arc::try_clone(&self.table)?,
         })
     }
+}
+
+// Whether each name is above the one before it.
+fn rise(names: &[Name]) -> bool
+    ensures { result ≡ true → IsStrictlySortedBy (slice_cmp nat_cmp) names.now }
+{
+    for place in 1..names.len() {
+        if !names[place - 1].cmp(&names[place]).is_lt() {
+            return false;
+        }
+    }
+    true
 }
 
 // Names with their positions, in name order.
@@ -141,7 +166,9 @@ impl SharedNames {
     pub fn new(alloc: Global, names: &[Name]) -> Result<SharedNames, AllocError> {
         let in_order = in_order(alloc, names)?;
         let (names, positions) = apart(alloc, &in_order)?;
+        let rise = rise(&names);
         let table = NameTable {
+            rise,
             names: Arc::new(alloc, names)?,
             numbers: numbers_by_position(alloc, &positions)?,
             positions,
@@ -157,6 +184,13 @@ impl SharedNames {
         ensures { result ≡ length self.now }
     {
         self.table.names.len()
+    }
+
+    /// Whether names are known to rise with their numbers, which they do where no name stands twice.
+    pub fn rise(&self) -> bool
+        ensures { result ≡ true → IsStrictlySortedBy (slice_cmp nat_cmp) self.now }
+    {
+        self.table.rise
     }
 
     /// The names by number, in name order.
@@ -234,11 +268,29 @@ impl SharedNames {
         }
     }
 
+    /// The likely number of a name, if it is the name's.
+    pub fn found_at_once(&self, name: Name) -> Option<usize>
+        ensures { IfSome result (λ number. slice_get self.now number ≡ Some name) }
+    {
+        self.confirmed(self.likely_number(name), name)
+    }
+
+    /// The number of a name, if it is this one or else the likely one.
+    #[inline(always)]
+    pub fn found_near(&self, name: Name, number: Option<usize>) -> Option<usize>
+        ensures { IfSome result (λ number. slice_get self.now number ≡ Some name) }
+    {
+        match self.confirmed(number, name) {
+            Some(number) => Some(number),
+            None => self.found_at_once(name),
+        }
+    }
+
     /// The number of a name, where it is found among these names.
     pub fn find(&self, name: Name) -> Option<usize>
         ensures { IfSome result (λ number. slice_get self.now number ≡ Some name) }
     {
-        match self.confirmed(self.likely_number(name), name) {
+        match self.found_at_once(name) {
             Some(number) => Some(number),
             None => self.confirmed(self.number_in_order(name), name),
         }

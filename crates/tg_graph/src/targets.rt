@@ -1,5 +1,8 @@
 //! The names to which the edges of one row lead, by number.
-ghost use Rattle.std.specs.Prelude.{◌≡◌, [], Some, IfOk, OnErr, true, length, slice_get, unwrap_or};
+ghost use Rattle.std.specs.Prelude.{◌≡◌, [], Some, IfOk, IfSome, OnErr, true, length, slice_get, unwrap_or};
+ghost use Rattle.std.specs.Ordering.{nat_cmp};
+ghost use Rattle.std.specs.Cmp.Lexicographic.{slice_cmp};
+ghost use Rattle.std.specs.List.Sorted.{IsStrictlySortedBy};
 ghost use Rattle.std.specs.Option.{option_copied};
 ghost use Rattle.tg_graph.specs.EdgeLists.{names_of, Extends};
 
@@ -52,6 +55,22 @@ impl Targets {
     /// The names that are shared.
     pub fn shared(&self) -> Option<&SharedNames> {
         self.shared.as_ref()
+    }
+
+    /// The number of a name, where all names are shared and rise with their numbers, and the number is
+    /// this one or is found at once.
+    #[inline(always)]
+    pub fn rising_number(&self, name: Name, likely: Option<usize>) -> Option<usize>
+        ensures number { IfSome result
+            (λ number. slice_get (names_of self.now) number ≡ Some name) }
+        ensures rise { IfSome result
+            (λ number. IsStrictlySortedBy (slice_cmp nat_cmp) (names_of self.now)) }
+    {
+        let names = self.shared.as_ref()?;
+        if !self.own.is_empty() || !names.rise() {
+            return None;
+        }
+        names.found_near(name, likely)
     }
 
     /// How many names are this row's alone.
