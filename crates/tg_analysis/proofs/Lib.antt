@@ -35,3 +35,4 @@ pub mod Gathered
 pub mod ByTarget
 pub mod Blocked
 pub mod Spreads
+pub mod LookedUp

@@ -20,7 +20,7 @@ use Rattle.tg_analysis.specs.declared.flooding.Flood.{Flood}
 use Rattle.tg_analysis.specs.declared.spreading.Asked.{Asked}
 use Rattle.tg_analysis.specs.declared.spreading.Spread.{Spread}
 use Rattle.tg_analysis.specs.Sharing.{linked, InOneIsland, HeldInIsland}
-use Rattle.tg_analysis.specs.Linked.{neighbours, is_near, linked_end, AddsNeighbour}
+use Rattle.tg_analysis.specs.Linked.{NeighbourLists, neighbours, is_near, linked_end, AddsNeighbour}
 use Rattle.tg_analysis.specs.Flooding.{number_in, number_at, work_left, IsOneOf, Meets}
 use Rattle.tg_analysis.specs.Spreading.{IsMet, HoldsNone, IsMissing, BeginsAt, FollowsOn, ReadsEdge, ReadsUpTo, Reads, IsSpread, HasRead, IsAtRest, RunsOut}
 use Rattle.tg_analysis.proofs.Places.{position-at, place_of, place-known, holds-row}
@@ -144,6 +144,10 @@ module _ (es : Entries) (i : ℕ) where
   reads_missing s t (inl r) = r.missing
   reads_missing s t (inr r) = r.missing ∙ r.reads.missing
 
+  pub reads_back_len : (s t : Spread) → Reads es i s t → length t.back ≡ length s.back
+  reads_back_len s t (inl r) = r.len
+  reads_back_len s t (inr r) = ap length r.back ∙ r.reads.len
+
 module _ (es : Entries) (ok : IsGraph es) (asked : Asked) where
   abbrev g : ProtectionGraph
   g = graph_of es
@@ -170,7 +174,6 @@ module _ (es : Entries) (ok : IsGraph es) (asked : Asked) where
       → IsSpread es asked missing later t
   spread-meets missing pending later ps s t is m back followed reach keep fresh pends = record {
     len = m.len ∙ is.len;
-    back_len = ap length back ∙ is.back_len;
     count = omega (arith, is.count, m.work, followed);
     back_from = λ a b h. is.back_from a b (was a b h);
     inside = λ a u p h. inside a u p (newly ps s.flood t.flood m a h);
@@ -214,7 +217,6 @@ module _ (es : Entries) (ok : IsGraph es) (asked : Asked) where
   spread-drop : (missing : Rights) (p : ℕ) (rest : List ℕ) (s : Spread) → IsSpread es asked missing (p ∷ rest) s → HoldsNone g missing asked.y p → ((place b : ℕ) → linked_end es p place ≡ Some b → IsMet s b) → ((a : ℕ) → is_near s.back p a ≡ true → IsMet s a) → IsSpread es asked missing rest s
   spread-drop missing p rest s is idle ahead behind = record {
     len = is.len;
-    back_len = is.back_len;
     count = is.count;
     back_from = is.back_from;
     inside = is.inside;
@@ -244,7 +246,6 @@ module _ (es : Entries) (ok : IsGraph es) (asked : Asked) where
   pub spread-takes : (missing : Rights) (p : ℕ) (old new : Spread) → IsSpread es asked missing old.flood.waiting.items old → TakesLast p old.flood new.flood → new.back ≡ old.back → new.followed ≡ old.followed + 1 → IsSpread es asked missing (p ∷ new.flood.waiting.items) new
   spread-takes missing p old new is takes back followed = record {
     len = ap (λ numbers. length numbers.items) takes.numbers ∙ is.len;
-    back_len = ap length back ∙ is.back_len;
     count = omega (arith, is.count, followed, ap length takes.waiting, length-append new.flood.waiting.items (p ∷ []), ap (λ numbers. count_by (λ number. not (is_some number)) numbers.items) takes.numbers);
     back_from = λ a b h. is.back_from a b (was a b h);
     inside = λ a u q h. is.inside a u q (before a h);
@@ -309,7 +310,6 @@ module _ (es : Entries) (ok : IsGraph es) (asked : Asked) where
     pub spread-narrows : (pending : List ℕ) (s : Spread) → IsSpread es asked missing pending s → IsSpread es asked left pending s
     spread-narrows pending s is = record {
       len = is.len;
-      back_len = is.back_len;
       count = is.count;
       back_from = is.back_from;
       inside = is.inside;
@@ -348,6 +348,10 @@ module _ (es : Entries) (ok : IsGraph es) (asked : Asked) where
   follows_back p s t (inl f) = f.back
   follows_back p s t (inr all) = ap (λ u. u.back) all.1
 
+  pub follows_followed : (p : ℕ) (s t : Spread) → FollowsOn es p s t → t.followed ≡ s.followed
+  follows_followed p s t (inl f) = f.followed
+  follows_followed p s t (inr all) = ap (λ u. u.followed) all.1
+
   pub follows_missing : (p : ℕ) (s t : Spread) → FollowsOn es p s t → t.missing ≡ s.missing
   follows_missing p s t (inl f) = f.missing
   follows_missing p s t (inr all) = ap (λ u. u.missing) all.1
@@ -359,10 +363,11 @@ module _ (es : Entries) (ok : IsGraph es) (asked : Asked) where
   -- ---- a row is read
   module _ (i : ℕ) where
     -- and the flood goes on
-    pub rests : (left : Rights) (s t : Spread) → HasRead es (i + 1) s → IsTrue (is_empty_set left) ⊎ RunsOut es asked left s t → IsTrue (is_empty_set left) ⊎ IsAtRest es asked left (i + 1) t
-    rests left s t read (inl none) = inl none
-    rests left s t read (inr ran) = inr (record {
+    pub rests : (left : Rights) (s t : Spread) → length s.back ≡ length (keys_of es) → HasRead es (i + 1) s → IsTrue (is_empty_set left) ⊎ RunsOut es asked left s t → IsTrue (is_empty_set left) ⊎ IsAtRest es asked left (i + 1) t
+    rests left s t listed read (inl none) = inl none
+    rests left s t listed read (inr ran) = inr (record {
       is_spread = ran.is_spread;
+      back_len = ap length ran.back ∙ listed;
       calm = ran.calm;
       read = λ a place b lt e. elim (read a place b lt e) [ inl met ↦ inl (ran.grows a met) | inr near ↦ inr (ap (λ lists. is_near lists b a) ran.back ∙ near) ];
     })
@@ -371,7 +376,6 @@ module _ (es : Entries) (ok : IsGraph es) (asked : Asked) where
     spread-notes : (missing : Rights) (here : ℕ) (s t : Spread) → IsSpread es asked missing [] s → ReadsUpTo es i here s t → IsSpread es asked missing [] t
     spread-notes missing here s t is r = record {
       len = ap (λ flood. length flood.numbers.items) r.flood ∙ is.len;
-      back_len = r.len ∙ is.back_len;
       count = omega (arith, is.count, ap work_left r.flood, r.followed);
       back_from = λ a b h. from a b (r.from b a h);
       inside = λ a u p h. is.inside a u p (before a h);
@@ -428,7 +432,6 @@ module _ (es : Entries) (ok : IsGraph es) (asked : Asked) where
   pub spread-begins : (missing rights : Rights) (count start : ℕ) (s : Spread) → count ≡ length (keys_of es) → slice_get (keys_of es) start ≡ Some asked.x → BeginsAt count start rights s → IsSpread es asked missing s.flood.waiting.items s
   spread-begins missing rights count start s whole at b = record {
     len = b.meets.len ∙ ap length b.clear ∙ length-replicate {A = Option ℕ} count None ∙ whole;
-    back_len = ap length b.back ∙ length-replicate {A = List ℕ} count [] ∙ whole;
     count = omega (arith, b.meets.work, ap (λ numbers. count_by (λ number. not (is_some number)) numbers) b.clear, fresh_count count, ap length b.calm, b.followed, whole);
     back_from = λ a c h. absurd (no_list c a h);
     inside = λ a u p h. let is : a ≡ start = only a h in let same : slice_get (keys_of es) start ≡ Some u = subst (λ n. slice_get (keys_of es) n ≡ Some u) is p in let x : asked.x ≡ u = cc in subst (λ v. InOneIsland g asked.x v) x (island_refl g asked.x (place-known (keys_of es) start asked.x at));
@@ -459,11 +462,39 @@ module _ (es : Entries) (ok : IsGraph es) (asked : Asked) where
       waits a h = (joined a h).1
 
       no_list : (c a : ℕ) → is_near s.back c a ≡ true → ⊥
-      no_list c a h = true≢false (sym (ap (λ lists. is_near lists c a) (sym b.back) ∙ h) ∙ ap (list_any (nat_eq a)) (by (cases_lt c count)))
-        where
-          by : (c < count) ⊎ (count ≤ c) → neighbours (replicate count []) c ≡ []
-          by (inl h) = get_or-replicate count c [] [] h
-          by (inr h) = get_or-eq_default (replicate count []) [] (omega (arith, length-replicate {A = List ℕ} count []))
+      no_list c a h = true≢false (sym (ap (λ lists. is_near lists c a) (sym b.back) ∙ h) ∙ ap (list_any (nat_eq a)) (let none : NeighbourLists = [] in get_or-eq_default none [] {n = c} (omega arith)))
+
+  -- ---- lists that are empty
+  module _ (count : ℕ) (whole : count ≡ length (keys_of es)) where
+    unlisted : (c a : ℕ) → is_near (replicate count []) c a ≡ true → ⊥
+    unlisted c a h = true≢false (sym h ∙ ap (list_any (nat_eq a)) (by (cases_lt c count)))
+      where
+        by : (c < count) ⊎ (count ≤ c) → neighbours (replicate count []) c ≡ []
+        by (inl h) = get_or-replicate count c [] [] h
+        by (inr h) = get_or-eq_default (replicate count []) [] (omega (arith, length-replicate {A = List ℕ} count []))
+
+    no_near : (t : Spread) → t.back ≡ replicate count [] → (c a : ℕ) → is_near t.back c a ≡ true → ⊥
+    no_near t back c a h = unlisted c a (ap (λ lists. is_near lists c a) (sym back) ∙ h)
+
+    -- the lists begin anew
+    pub spread-unlisted : (missing : Rights) (pending : List ℕ) (s t : Spread) → IsSpread es asked missing pending s → t.flood ≡ s.flood → t.followed ≡ s.followed → t.back ≡ replicate count [] → IsSpread es asked missing pending t
+    spread-unlisted missing pending s t is flood followed back = record {
+      len = ap (λ f. length f.numbers.items) flood ∙ is.len;
+      count = omega (arith, is.count, ap work_left flood, followed);
+      back_from = λ a b h. absurd (no_near t back b a h);
+      inside = λ a u p h. is.inside a u p (before a h);
+      start = λ a p. now a (is.start a p);
+      pends = λ a h. now a (is.pends a h);
+      none = λ a h. is.none a (before a h);
+      ahead = λ a place b h e. elim (is.ahead a place b (before a h) e) [ inl w ↦ inl w | inr n ↦ inr (now b n) ];
+      behind = λ a b h near. absurd (no_near t back b a near);
+    }
+      where
+        now : (a : ℕ) → IsMet s a → IsMet t a
+        now a h = ap (λ f. is_some (number_at f a)) flood ∙ h
+
+        before : (a : ℕ) → IsMet t a → IsMet s a
+        before a h = ap (λ f. is_some (number_at f a)) (sym flood) ∙ h
 
   -- ---- the end
   pub spread-ends : WellFormed g → (missing : Rights) (i : ℕ) (s : Spread) → length (keys_of es) ≤ i → IsTrue (has_vertex g asked.x) → IsAtRest es asked missing i s → (right : Right) → IsTrue (member missing right) → HeldInIsland g right asked.x asked.y → ⊥

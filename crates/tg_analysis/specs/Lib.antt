@@ -14,3 +14,4 @@ pub mod Holdings
 pub mod Gathered
 pub mod Tables
 pub mod ByTarget
+pub mod Holders

@@ -39,7 +39,7 @@ pub record BeginsAt (count start : ℕ) (rights : Rights) (spread : Spread) : Ty
   pub clear : before.numbers.items ≡ replicate count None
   pub calm : before.waiting.items ≡ []
   pub meets : Meets (start ∷ []) before spread.flood
-  pub back : spread.back ≡ replicate count []
+  pub back : spread.back ≡ []
   pub followed : spread.followed ≡ 0
   pub missing : spread.missing ≡ rights
 
@@ -93,7 +93,6 @@ Reads es a old new = ReadsUpTo es a (length (row_number es a)) old new ⊎ Reads
 -- what was met lies in x's island; what was met and is not pending holds no missing right, and what is linked to it, ahead or by its list, was met
 pub record IsSpread (es : Entries) (asked : Asked) (missing : Rights) (pending : List ℕ) (spread : Spread) : Type 0 where
   pub len : length spread.flood.numbers.items ≡ length (keys_of es)
-  pub back_len : length spread.back ≡ length (keys_of es)
   pub count : work_left spread.flood + spread.followed ≡ length (keys_of es)
   pub back_from : (a b : ℕ) → is_near spread.back b a ≡ true → (place : ℕ) × (linked_end es a place ≡ Some b)
   pub inside : (a : ℕ) (u : Name) → slice_get (keys_of es) a ≡ Some u → IsMet spread a → InOneIsland (graph_of es) asked.x u
@@ -110,6 +109,7 @@ HasRead es i spread = (a place b : ℕ) → a < i → linked_end es a place ≡ 
 -- nothing waits, and the rows before the position were read or followed
 pub record IsAtRest (es : Entries) (asked : Asked) (missing : Rights) (i : ℕ) (spread : Spread) : Type 0 where
   pub is_spread : IsSpread es asked missing [] spread
+  pub back_len : length spread.back ≡ length (keys_of es)
   pub calm : spread.flood.waiting.items ≡ []
   pub read : HasRead es i spread
 
@@ -117,5 +117,12 @@ pub record IsAtRest (es : Entries) (asked : Asked) (missing : Rights) (i : ℕ) 
 pub record RunsOut (es : Entries) (asked : Asked) (missing : Rights) (old new : Spread) : Type 0 where
   pub is_spread : IsSpread es asked missing [] new
   pub calm : new.flood.waiting.items ≡ []
+  pub back : new.back ≡ old.back
+  pub grows : (a : ℕ) → IsMet old a → IsMet new a
+
+-- one position more was taken up, and the flood goes on
+pub record StepsOn (es : Entries) (asked : Asked) (old new : Spread) : Type 0 where
+  pub is_spread : IsSpread es asked new.missing new.flood.waiting.items new
+  pub followed : new.followed ≡ old.followed + 1
   pub back : new.back ≡ old.back
   pub grows : (a : ℕ) → IsMet old a → IsMet new a

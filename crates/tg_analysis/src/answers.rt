@@ -1,26 +1,14 @@
 //! Whether rights can be shared.
 ghost use Rattle.std.specs.Prelude.{◌≡◌, ◌↔◌, false, None, IsTrue, IfOk, IfErr, OnOk};
-ghost use Rattle.tg_graph.specs.declared.right_sets.Right.{Right};
-ghost use Rattle.tg_graph.specs.Sets.{member, IsNamed};
 ghost use Rattle.tg_graph.specs.GraphOf.{graph_of};
 ghost use Rattle.tg_graph.specs.RuleLists.{CanShare, CanShareAll};
 ghost use Rattle.tg_analysis.specs.Questions.{question_fault, IsDueFault};
 
+use crate::holders::named;
 use crate::questions::AskFault;
 use crate::spreading::{Asked, island_holds};
-use bitflags::Flags;
 use std::alloc::Global;
 use tg_graph::{Graph, Name, Right, Rights};
-
-// The set without the bits that stand for no right.
-fn named(rights: Rights) -> Rights
-    ensures named { IsNamed result }
-    ensures members { (right : Right) → member result right ≡ member rights right }
-{
-    let mut named = rights;
-    named.truncate();
-    named
-}
 
 /// Whether some one list of rules, each accepted in its turn, gives x every right of the set over
 /// y. With the empty set it is always so.

@@ -11,6 +11,7 @@ ghost use Rattle.tg_analysis.specs.Searches.{IsSearching, SearchesOn};
 ghost use Rattle.tg_analysis.specs.Questions.{derivation_fault, IsDueFault};
 
 use crate::chains::Search;
+use crate::holders::are_held;
 use crate::moves::add_move;
 use crate::questions::AskFault;
 use std::alloc::{AllocError, Global};
@@ -107,6 +108,9 @@ fn derive(
         (CanShareAll (graph_of graph.now) rights x y → ⊥)
         (λ rules. IsDerivationOfAll (graph_of graph.now) rights x y rules.items)) }
 {
+    if !are_held(graph, rights, y) {
+        return Ok(None);
+    }
     let mut search = Search::from(alloc, graph, x)?;
     let mut rules = Vec::new(alloc);
     let mut next = 0;

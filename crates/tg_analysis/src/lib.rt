@@ -12,6 +12,7 @@ mod famine_tests;
 mod flooding;
 mod gates;
 mod gathering;
+mod holders;
 mod holdings;
 #[cfg(test)]
 mod index_tests;

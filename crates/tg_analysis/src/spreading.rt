@@ -1,5 +1,5 @@
 //! The flood from one vertex that looks for holders of rights.
-ghost use Rattle.std.specs.Prelude.{◌≡◌, ◌↔◌, ◌<◌, ◌+◌, ◌∷◌, [], ℕ, true, IsTrue, IfOk, OnOk, ◌⊎◌, length};
+ghost use Rattle.std.specs.Prelude.{◌≡◌, ◌↔◌, ◌<◌, ◌+◌, ◌∷◌, [], ℕ, true, IsTrue, IfOk, OnOk, MatchBool, ◌⊎◌, length};
 ghost use Rattle.std.specs.Map.{keys_of};
 ghost use Rattle.tg_graph.specs.declared.right_sets.Right.{Right};
 ghost use Rattle.tg_graph.specs.Sets.{member, is_empty_set, IsNamed};
@@ -10,14 +10,19 @@ ghost use Rattle.tg_graph.specs.RuleLists.{CanShareAll};
 ghost use Rattle.tg_analysis.specs.Sharing.{HeldInIsland};
 ghost use Rattle.tg_analysis.specs.Linked.{is_near};
 ghost use Rattle.tg_analysis.specs.Flooding.{work_left};
-ghost use Rattle.tg_analysis.specs.Spreading.{BeginsAt, Follows, FollowsOn, ReadsEdge, Reads, IsMissing, IsSpread, RunsOut, IsAtRest};
+ghost use Rattle.tg_analysis.specs.Spreading.{BeginsAt, Follows, FollowsOn, StepsOn, ReadsEdge, Reads, IsMissing, IsSpread, RunsOut, IsAtRest};
 
 use crate::flooding::Flood;
+use crate::holders::are_held;
 use crate::laws;
 use crate::links::{Links, linked_end};
 use bitflags::Flags;
 use std::alloc::{AllocError, Global};
 use tg_graph::{Graph, Name, Rights};
+
+// Before all rows are looked at for a holder, an eighth as many positions are taken up: what is answered
+// near x needs no more.
+const FIRST_STEPS: usize = 8;
 
 /// The question whether x can come to have each right of a set over y.
 #[derive(Clone, Copy)]
@@ -37,7 +42,7 @@ struct Spread {
     // Positions that were met have a number.
     flood: Flood,
     // For each position those whose rows were read before they were met, and which an edge links to
-    // it.
+    // it. There are no lists before a row is read.
     back: Links,
     // How many positions were met and taken.
     followed: usize,
@@ -54,7 +59,7 @@ impl Spread {
         flood.meet(start)?;
         Ok(Spread {
             flood,
-            back: Links::none(alloc, count)?,
+            back: Links::none(alloc, 0)?,
             followed: 0,
             missing: rights,
         })
@@ -87,6 +92,31 @@ impl Spread {
         Ok(())
     }
 
+    // Takes up the last of the positions that wait, and goes on from it, unless no right is missing then.
+    // It says whether it went on.
+    fn step(&mut self, graph: &Graph, asked: &Asked) -> Result<bool, AllocError>
+        requires graph { IsGraph graph.now }
+        requires missing { IsMissing graph.now asked.now self.old.missing }
+        requires spread { IsSpread graph.now asked.now self.old.missing
+            self.old.flood.waiting.items self.old }
+        ensures missing { OnOk result (IsMissing graph.now asked.now self.new.missing) }
+        ensures on { IfOk result (λ on. MatchBool on
+            (StepsOn graph.now asked.now self.old self.new)
+            (IsTrue (is_empty_set self.new.missing)
+            ⊎ RunsOut graph.now asked.now self.new.missing self.old self.new)) }
+    {
+        let Some(position) = self.flood.waiting.pop() else {
+            return Ok(false);
+        };
+        self.followed += 1;
+        self.missing = self.missing.difference(graph.rights_at(position, asked.y));
+        if self.missing.is_empty() {
+            return Ok(false);
+        }
+        self.follow_on(graph, position)?;
+        Ok(true)
+    }
+
     // Goes on until no right is missing, or nothing is left to follow.
     fn run(&mut self, graph: &Graph, asked: &Asked) -> Result<(), AllocError>
         requires graph { IsGraph graph.now }
@@ -97,13 +127,24 @@ impl Spread {
         ensures end { OnOk result (IsTrue (is_empty_set self.new.missing)
             ⊎ RunsOut graph.now asked.now self.new.missing self.old self.new) }
     {
-        while let Some(position) = self.flood.waiting.pop() {
-            self.followed += 1;
-            self.missing = self.missing.difference(graph.rights_at(position, asked.y));
-            if self.missing.is_empty() {
+        while self.step(graph, asked)? {}
+        Ok(())
+    }
+
+    // Goes on for so many steps, unless no right is missing or nothing is left to follow before.
+    fn run_for(&mut self, graph: &Graph, asked: &Asked, steps: usize) -> Result<(), AllocError>
+        requires graph { IsGraph graph.now }
+        requires missing { IsMissing graph.now asked.now self.old.missing }
+        requires spread { IsSpread graph.now asked.now self.old.missing
+            self.old.flood.waiting.items self.old }
+        ensures missing { OnOk result (IsMissing graph.now asked.now self.new.missing) }
+        ensures spread { OnOk result (IsTrue (is_empty_set self.new.missing)
+            ⊎ IsSpread graph.now asked.now self.new.missing self.new.flood.waiting.items self.new) }
+    {
+        for _ in 0..steps {
+            if !self.step(graph, asked)? {
                 return Ok(());
             }
-            self.follow_on(graph, position)?;
         }
         Ok(())
     }
@@ -165,7 +206,7 @@ impl Spread {
     }
 
     // Finds the rights that no vertex of x's island holds.
-    fn search(&mut self, graph: &Graph, asked: &Asked) -> Result<(), AllocError>
+    fn search(&mut self, alloc: Global, graph: &Graph, asked: &Asked) -> Result<(), AllocError>
         requires missing { IsMissing graph.now asked.now self.old.missing }
         requires spread { IsSpread graph.now asked.now self.old.missing
             self.old.flood.waiting.items self.old }
@@ -175,6 +216,7 @@ impl Spread {
             → HeldInIsland (graph_of graph.now) right asked.now.x asked.now.y → ⊥) }
     {
         let count = graph.len();
+        self.back = Links::none(alloc, count)?;
         self.run(graph, asked)?;
         for position in 0..count {
             if self.missing.is_empty() {
@@ -205,7 +247,13 @@ pub fn island_holds(alloc: Global, graph: &Graph, asked: &Asked) -> Result<bool,
     match graph.position(asked.x) {
         Some(start) => {
             let mut spread = Spread::from(alloc, count, start, asked.rights)?;
-            spread.search(graph, asked)?;
+            spread.run_for(graph, asked, count / FIRST_STEPS)?;
+            if !spread.missing.is_empty() {
+                if !are_held(graph, spread.missing, asked.y) {
+                    return Ok(false);
+                }
+                spread.search(alloc, graph, asked)?;
+            }
             Ok(spread.missing.is_empty())
         }
         None => Ok(false),

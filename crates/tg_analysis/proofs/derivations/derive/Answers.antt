@@ -1,4 +1,4 @@
-use Rattle.std.proofs.Common.{get_or, ap, sym, ◌∙◌, subst, arith}
+use Rattle.std.proofs.Common.{◌≡◌, false, true≢false, get_or, ap, sym, ◌∙◌, subst, arith}
 use Rattle.tg_graph.specs.declared.right_sets.Right.TheVariants.{T}
 use Rattle.tg_graph.specs.Letters.{all_rights}
 use Rattle.tg_graph.specs.Graphs.{Name}
@@ -7,9 +7,17 @@ use Rattle.tg_graph.specs.RuleLists.{CanShare}
 use Rattle.tg_analysis.specs.declared.chains.Search.{Search}
 use Rattle.tg_analysis.specs.SetDerivations.{AddsPart}
 use Rattle.tg_analysis.proofs.Moved.{so_far_none}
+use Rattle.tg_analysis.proofs.NoOthers.{no_other}
 use Rattle.tg_analysis.proofs.Parts.{parts_none, parts_skip, parts_next, parts_whole, not_all}
 use Rattle.tg_analysis.proofs.derivations.derive.Goals as goal
 use Rattle.tg_analysis.proofs.derivations.derive.Goals.{then-has+in_ok-last+in-Some, else-has}
+
+-- what no vertex holds can't be shared
+pub returns-then-not-are_held : goal.returns-then-not-are_held
+returns-then-not-are_held c =
+    let graph = graph_of c.args.graph.now in
+    let none : c.are_held.result ≡ false = c.if-not-are_held.true in
+    λ can. true≢false (sym (c.are_held.ensures.1 (λ right within. let held = no_other graph right c.args.x c.args.y c.requires.well_formed c.requires.known c.requires.known_too (can.0, can.1, can.2 right within) in (held.0, held.1))) ∙ none)
 
 pub loop-right-init : goal.loop-right-init
 loop-right-init c = record {

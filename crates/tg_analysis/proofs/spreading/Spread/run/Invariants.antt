@@ -3,8 +3,8 @@ use Rattle.tg_analysis.specs.Flooding.{work_left}
 use Rattle.tg_analysis.specs.Spreading.{IsMet, IsMissing, IsSpread}
 use Rattle.tg_analysis.proofs.spreading.Spread.run.Given as goal
 
-abbrev pub invariant-loop-position : goal.invariant-loop-position
-invariant-loop-position l =
+abbrev pub invariant-loop : goal.invariant-loop
+invariant-loop l =
     record {
       is_missing : IsMissing l.graph l.asked l.self.missing;
       is_spread : IsSpread l.graph l.asked l.self.missing l.self.flood.waiting.items l.self;
@@ -12,5 +12,5 @@ invariant-loop-position l =
       grows : (a : ℕ) → IsMet l.initial.self a → IsMet l.self a;
     }
 
-abbrev pub decreases-loop-position : goal.decreases-loop-position
-decreases-loop-position l = work_left l.self.flood
+abbrev pub decreases-loop : goal.decreases-loop
+decreases-loop l = work_left l.self.flood

@@ -1,6 +1,6 @@
-use Rattle.std.proofs.Common.{sym, subst}
+use Rattle.std.proofs.Common.{sym, subst, ◌∙◌}
 use Rattle.tg_analysis.specs.Spreading.{IsMissing, IsSpread}
-use Rattle.tg_analysis.proofs.Spreads.{spread-reads, reads_missing, rests}
+use Rattle.tg_analysis.proofs.Spreads.{spread-reads, reads_missing, reads_back_len, rests}
 use Rattle.tg_analysis.proofs.spreading.Spread.visit.Goals as goal
 
 pub run-requires-clause-missing : goal.run-requires-clause-missing
@@ -14,4 +14,4 @@ run-requires-clause-spread c =
 pub returns-clause-rest : goal.returns-clause-rest
 returns-clause-rest c =
     let read = spread-reads c.args.graph.now c.requires.graph c.args.asked.now c.args.position c.args.self.now.missing c.args.self.now c.read_row.new.self c.requires.rest.is_spread c.requires.rest.calm c.requires.rest.read c.in_ok-read_row.ensures in
-    rests c.args.graph.now c.requires.graph c.args.asked.now c.args.position c.run.new.self.missing c.read_row.new.self c.run.new.self read.1 c.in_ok-run.ensures.end
+    rests c.args.graph.now c.requires.graph c.args.asked.now c.args.position c.run.new.self.missing c.read_row.new.self c.run.new.self (reads_back_len c.args.graph.now c.args.position c.args.self.now c.read_row.new.self c.in_ok-read_row.ensures ∙ c.requires.rest.back_len) read.1 c.in_ok-run.ensures.end

@@ -6,7 +6,7 @@ use Rattle.std.proofs.lemmas.Nat.Bits.{bit_at_and, bit_at-lt}
 use Rattle.tg_graph.specs.declared.right_sets.Right.{Right}
 use Rattle.tg_graph.specs.declared.right_sets.Right.TheVariants.{T, G, R, W, E, A, D}
 use Rattle.tg_graph.specs.Sets.{bit_of}
-use Rattle.tg_analysis.proofs.answers.named.Goals as goal
+use Rattle.tg_analysis.proofs.holders.named.Goals as goal
 
 -- each right has its bit among the seven
 bit_among : (right : Right) → bit_at 127 (bit_of right) ≡ 1
