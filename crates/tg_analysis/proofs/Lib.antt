@@ -36,3 +36,4 @@ pub mod ByTarget
 pub mod Blocked
 pub mod Spreads
 pub mod LookedUp
+pub mod NearRows

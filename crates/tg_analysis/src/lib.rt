@@ -7,6 +7,7 @@ mod by_target;
 mod chains;
 mod derivations;
 mod disjoint_sets;
+mod edge_counts;
 #[cfg(test)]
 mod famine_tests;
 mod flooding;
@@ -25,6 +26,7 @@ mod links;
 mod memory_tests;
 mod met;
 mod moves;
+mod near_rows;
 mod numbering;
 mod positions;
 #[cfg(test)]

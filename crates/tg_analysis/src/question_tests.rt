@@ -2,8 +2,9 @@ use crate::questions::AskFault;
 use crate::test_answers::{derived, shares, shares_all};
 use crate::test_graphs::{assert_rules, graph, name, numbered, right, set, word};
 use bitflags::Flags;
-use std::alloc::Global;
+use std::alloc::{AllocError, Global};
 use std::process::Abort;
+use std::test::Fail;
 use tg_graph::{Graph, Name, Right, Rights};
 
 fn assert_shares(
@@ -221,4 +222,44 @@ fn too_large(rt: HostRuntime) {
     let h = numbered(&rt, rt.alloc(), 4097);
     assert_too_large(&rt, rt.alloc(), &h, "_0", "_1");
     assert_unknown(&rt, rt.alloc(), &h, "_0", "z", "z");
+}
+
+// Adds w from a vertex over each of these to which it has no edge.
+fn fill_row(graph: &mut Graph, x: Name, names: &[Name]) {
+    for y in names {
+        let _ = graph.add_edge(x, *y, Rights::of(Right::W));
+    }
+}
+
+// The same from each of them.
+fn fill(graph: &mut Graph, names: &[Name]) {
+    for x in names {
+        fill_row(graph, *x, names);
+    }
+}
+
+// The names of a graph's vertices.
+fn names_of(alloc: Global, graph: &Graph) -> Result<Vec<Name>, AllocError> {
+    let mut names = Vec::new(alloc);
+    for position in 0..graph.len() {
+        if let Some(name) = graph.name_at(position) {
+            names.push(name)?;
+        }
+    }
+    Ok(names)
+}
+
+#[test]
+fn neighbours_in_rows_and_in_lists(rt: HostRuntime) -> Result<(), Fail> {
+    // some 140 edges: the neighbours of a and b are found in the rows, those of c and on in the list
+    let vertices = "a b c d e f h i j k l m";
+    let links = "a c t, a b t, b e t, c d t, e h t, d i t, h m r, i m r";
+    let mut g = graph(&rt, rt.alloc(), vertices, links);
+    let names = names_of(rt.alloc(), &g)?;
+    fill(&mut g, &names);
+    let (right, x, y) = asked(&rt, "a m r");
+    // b comes before c, and so h before i
+    let rules = "take e h m r, take b e m r, take a b m r";
+    assert_derived(&rt, rt.alloc(), &g, right, x, y, rules);
+    Ok(())
 }

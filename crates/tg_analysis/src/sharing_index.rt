@@ -8,6 +8,7 @@ ghost use Rattle.tg_analysis.specs.Numbering.{AreIslands};
 ghost use Rattle.tg_analysis.specs.Questions.{question_fault, IsDueFault};
 
 use crate::by_target::EdgesByTarget;
+use crate::edge_counts::edge_count;
 use crate::numbering::Islands;
 use crate::questions::AskFault;
 use crate::{joining, laws};
@@ -15,11 +16,14 @@ use std::alloc::{AllocError, Global};
 use std::marker::Model;
 use tg_graph::{Graph, Name, Right};
 
+// The edges are listed once half as many rows were looked at, which takes about as long.
+const LOOKS_A_LIST: usize = 2;
+
 /// The islands of a graph, and, once it has been asked often enough, its edges by their targets: what
 /// answers a question about sharing without a search.
 ///
 /// It is made in one pass over the edges that link, and takes some 50 bytes a vertex. A question costs a
-/// look at each row of an island. As soon as so many looks as there are edges may have been made, the
+/// look at each row of an island. As soon as half as many looks as there are edges may have been made, the
 /// edges are listed, which takes 16 bytes an edge; a question then costs the edges to one vertex.
 #[derive(Drop)]
 pub struct SharingIndex {
@@ -38,22 +42,16 @@ impl Model for SharingIndex {
     ghost view = { λ t. record { numbers = t.islands; listed = t.edges } };
 }
 
-// How many edges a graph has.
-fn edges_of(graph: &Graph) -> usize {
-    let mut count: usize = 0;
-    for position in 0..graph.len() {
-        count = count.saturating_add(graph.row_len(position));
-    }
-    count
-}
-
 // Whether a vertex of the island with the number holds the right over y.
 fn holds_in(graph: &Graph, islands: &Islands, right: Right, number: usize, y: Name) -> bool
     requires { AreIslands (graph_of graph.now) islands.now }
     ensures { IsTrue result ↔ HoldsIn graph.now islands.now right number y }
 {
+    let likely = graph.likely_number(y);
     for position in 0..graph.len() {
-        if islands.of(position) == Some(number) && graph.rights_at(position, y).has(right) {
+        if islands.of(position) == Some(number)
+            && graph.rights_near(position, y, likely).has(right)
+        {
             return true;
         }
     }
@@ -71,7 +69,7 @@ impl SharingIndex {
         Ok(SharingIndex {
             islands,
             edges: None,
-            edge_count: edges_of(graph),
+            edge_count: edge_count(graph),
             looks: 0,
         })
     }
@@ -81,7 +79,7 @@ impl SharingIndex {
         requires { IsIndexOf graph.now self.old }
         ensures { IsIndexOf graph.now self.new }
     {
-        if self.looks < self.edge_count || self.edges.is_some() {
+        if self.looks < self.edge_count / LOOKS_A_LIST || self.edges.is_some() {
             self.looks = self.looks.saturating_add(graph.len());
             return;
         }
