@@ -103,14 +103,14 @@ impl Holdings {
         Ok(Holdings { islands })
     }
 
-    /// Whether the island with a number holds the right over the vertex at a position.
+    /// Whether the island with a number, of which there is one, holds the right over the vertex at a
+    /// position. The number is not looked at again, as this is asked for each cell of a table.
+    #[inline(always)]
     pub(crate) fn has(&self, number: usize, position: usize) -> bool
+        requires { number < length self.now }
         ensures { result ≡ holds_over self.now number position }
     {
-        match self.islands.get(number) {
-            Some(targets) => targets.has(position),
-            None => false,
-        }
+        self.islands[number].has(position)
     }
 
     /// The island with the number holds the right over the vertex at the position as well.

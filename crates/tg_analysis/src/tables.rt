@@ -31,9 +31,14 @@ pub struct PairTable {
 impl Model for PairTable {
     ghost use Rattle.tg_analysis.specs.Tables.{Table};
 
+    ghost use Rattle.std.specs.Prelude.{length};
+    ghost use Rattle.tg_analysis.specs.Numbering.{AreCounted};
+
     ghost Value = { Table };
 
     ghost view = { λ t. record { numbers = t.islands; held = t.held } };
+
+    ghost invariant = { λ t. AreCounted t.islands (length t.held) };
 }
 
 impl PairTable {
