@@ -1,5 +1,5 @@
 -- Lists of edges whose targets are numbers.
-use Rattle.std.proofs.Common.{◌≡◌, ℕ, zero, suc, ◌<◌, ◌≤◌, ◌+◌, ◌-◌, List, [], ◌∷◌, ◌++◌, length, get_or, set, take, drop, Some, slice_get, Option, None, Bor, sym, ap, ◌∙◌, arith, add-one, refl}
+use Rattle.std.proofs.Common.{◌≡◌, ℕ, zero, suc, ◌<◌, ◌≤◌, ◌+◌, ◌-◌, List, [], ◌∷◌, ◌++◌, length, get_or, set, take, drop, Some, slice_get, Option, None, Bor, sym, ap, subst, ◌∙◌, arith, add-one, refl}
 use Rattle.std.specs.List.{insert, remove, copy_within, AllByRecursion}
 use Rattle.std.specs.Option.{option_map}
 use Rattle.std.specs.Slice.{IsGetResult}
@@ -9,7 +9,7 @@ use Rattle.std.proofs.lemmas.Option.{get_or_from_slice_get, slice_get_within, sl
 use Rattle.tg_graph.specs.declared.right_sets.Rights.{Rights}
 use Rattle.tg_graph.specs.declared.listed_edges.Edge.{Edge}
 use Rattle.tg_graph.specs.Graphs.{Name}
-use Rattle.tg_graph.specs.EdgeLists.{number_of, label_on, named, edges_of, AreWithin, Extends}
+use Rattle.tg_graph.specs.EdgeLists.{number_of, label_on, named, edges_of, AreWithin, AreNumbered, Extends}
 
 -- what `get` reads, as the list's own reading
 pub read_by_get : {X : Type 0} (xs : List X) (i : ℕ) (r : Option (Bor X)) → IsGetResult xs i i r → option_map (λ (x : Bor X). x.now) r ≡ slice_get xs i
@@ -84,3 +84,19 @@ take_suc (y ∷ xs) (suc i) x h = ap (λ zs. y ∷ zs) (take_suc xs i x h)
 
 pub take_one : {X : Type 0} (xs : List X) (i : ℕ) (x : X) → slice_get xs i ≡ Some x → insert (take i xs) i x ≡ take (i + 1) xs
 take_one xs i x h = take_suc xs i x h ∙ ap (λ n. take n xs) (sym (add-one i))
+
+-- ---- edges that have the same numbers among other names
+module _ (names others : List Name) where
+  pub numbered-next : (edges : List Edge) (i : ℕ) (e : Edge) (name : Name) → slice_get edges i ≡ Some e → slice_get others (number_of e) ≡ Some name → slice_get names (number_of e) ≡ Some name → AreNumbered names others (take i edges) → AreNumbered names others (take (i + 1) edges)
+  numbered-next edges i e name at there here so_far =
+      let P : Edge → Type 0 = λ edge. (number_of edge < length others) × (named others edge ≡ named names edge) in
+      let same : named others e ≡ named names e = named-is others e name (label_on e) (number_of e) there refl refl ∙ sym (named-is names e name (label_on e) (number_of e) here refl refl) in
+      subst (AllByRecursion P) (take_one edges i e at) (each-insert P (take i edges) i e so_far (slice_get_within others (number_of e) name there, same))
+
+  pub numbered-edges : (edges : List Edge) → AreNumbered names others edges → edges_of others edges ≡ edges_of names edges
+  numbered-edges [] h = refl
+  numbered-edges (e ∷ es) h = (λ i. h.0.1 i ∷ numbered-edges es h.1 i)
+
+  pub numbered-within : (edges : List Edge) → AreNumbered names others edges → AreWithin others edges
+  numbered-within [] h = tt
+  numbered-within (e ∷ es) h = (h.0.0, numbered-within es h.1)

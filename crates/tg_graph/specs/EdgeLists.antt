@@ -29,6 +29,10 @@ edges_of names edges = map (named names) edges
 abbrev pub AreWithin : List Name → List Edge → Type 0
 AreWithin names edges = AllByRecursion (λ edge. number_of edge < length names) edges
 
+-- the number of each edge is that of the same name among the others
+abbrev pub AreNumbered : List Name → List Name → List Edge → Type 0
+AreNumbered names others edges = AllByRecursion (λ edge. (number_of edge < length others) × (named others edge ≡ named names edge)) edges
+
 -- the edge at the place has the number
 abbrev pub HasNumber : List Edge → ℕ → ℕ → Type 0
 HasNumber edges number place = (edge : Edge) × (slice_get edges place ≡ Some edge) × (number_of edge ≡ number)

@@ -2,7 +2,7 @@
 ghost use Rattle.std.specs.Prelude.{◌≡◌, ◌<◌, ◌≤◌, ◌+◌, [], ◌∷◌, ◌++◌, if◌then◌else◌, true, Some, IfOk, IfErr, IfSome, OnOk, OnErr, is_ok, length, slice_get, slice_index_or, slice_set};
 ghost use Rattle.std.specs.List.{insert, remove};
 ghost use Rattle.tg_graph.specs.declared.right_sets.Rights.{Rights};
-ghost use Rattle.tg_graph.specs.EdgeLists.{HasNumber, IsAbove, IsNumberGap};
+ghost use Rattle.tg_graph.specs.EdgeLists.{names_of, edges_of, AreWithin, AreNumbered, HasNumber, IsAbove, IsNumberGap};
 ghost use Rattle.std.specs.Ordering.{nat_cmp};
 ghost use Rattle.std.specs.Cmp.Lexicographic.{slice_cmp};
 ghost use Rattle.std.specs.List.Sorted.{IsStrictlySortedBy};
@@ -142,6 +142,21 @@ fn insert_at(edges: &mut Vec<Edge>, place: usize, edge: Edge) -> Result<(), Allo
     Ok(())
 }
 
+// Whether the targets of edges have the same numbers among other names.
+fn are_numbered(edges: &[Edge], targets: &Targets, names: &SharedNames) -> bool
+    ensures { result ≡ true → AreNumbered (names_of targets.now) names.now edges.now }
+{
+    for edge in edges {
+        let Some(name) = names.at(edge.number()) else {
+            return false;
+        };
+        if !targets.is_at(edge.number(), name) {
+            return false;
+        }
+    }
+    true
+}
+
 /// A list of edges, each with its target and label.
 #[derive(Drop)]
 pub struct ListedEdges {
@@ -200,6 +215,14 @@ impl ListedEdges {
         Ok(list)
     }
 
+    // Edges with the numbers of their targets.
+    fn of_parts(targets: Targets, edges: Vec<Edge>) -> ListedEdges
+        requires { AreWithin (names_of targets) edges.items }
+        ensures { result ≡ edges_of (names_of targets) edges.items }
+    {
+        ListedEdges { targets, edges }
+    }
+
     /// How many edges there are.
     pub fn len(&self) -> usize
         ensures { result ≡ length self.now }
@@ -229,7 +252,7 @@ impl ListedEdges {
     /// Where the edge to a vertex mostly is, or would go: behind the edges with lesser numbers, as names
     /// have their numbers in name order. It decides no answer.
     pub fn likely_place(&self, target: Name) -> Option<usize> {
-        let number = self.targets.shared()?.found_at_once(target)?;
+        let number = self.targets.shared()?.likely_number(target)?;
         let number = u32::try_from(number).ok()?;
         Some(count_in_order(self.edges.as_slice(), number))
     }
@@ -297,9 +320,8 @@ impl ListedEdges {
         Ok(())
     }
 
-    /// The same edges, whose targets have numbers among these names where they had them among
-    /// others that are the same.
-    pub fn moved_to(
+    // The same edges, put in one by one.
+    fn put_in_turn(
         &self,
         alloc: Global,
         names: Option<&SharedNames>,
@@ -318,6 +340,26 @@ impl ListedEdges {
             }
         }
         Ok(list)
+    }
+
+    /// The same edges, whose targets have numbers among these names where they had them among
+    /// others that are the same. Where all have the same numbers, as in most copies, the edges are
+    /// copied at once.
+    pub fn moved_to(
+        &self,
+        alloc: Global,
+        names: Option<&SharedNames>,
+    ) -> Result<ListedEdges, AllocError>
+        ensures { IfOk result (λ list. list ≡ self.now) }
+    {
+        match names {
+            Some(shared) if are_numbered(self.edges.as_slice(), &self.targets, shared) => {
+                let targets = Targets::new(alloc, Some(shared.clone()?));
+                let edges = Vec::from_slice(alloc, self.edges.as_slice())?;
+                Ok(ListedEdges::of_parts(targets, edges))
+            }
+            _ => self.put_in_turn(alloc, names),
+        }
     }
 
     // Gathers the edges anew where most of their own names are of edges that were taken away.

@@ -269,6 +269,7 @@ impl SharedNames {
     }
 
     /// The likely number of a name, if it is the name's.
+    #[inline(always)]
     pub fn found_at_once(&self, name: Name) -> Option<usize>
         ensures { IfSome result (λ number. slice_get self.now number ≡ Some name) }
     {

@@ -1,23 +1,13 @@
-use Rattle.std.proofs.Common.{◌<◌, [], sym, ap, ◌∙◌, length, get_or, arith}
-use Rattle.std.specs.List.{insert}
-use Rattle.std.proofs.lemmas.List.{length-map}
-use Rattle.std.proofs.lemmas.Option.{none-some, slice_get-get_or}
-use Rattle.tg_graph.specs.Sets.{nothing}
-use Rattle.tg_graph.specs.EdgeLists.{names_of, named}
-use Rattle.tg_graph.proofs.EdgeLists.{take_one}
+use Rattle.std.proofs.Common.{◌≡◌, ◌∙◌}
+use Rattle.tg_graph.specs.EdgeLists.{names_of, edges_of}
+use Rattle.tg_graph.proofs.EdgeLists.{numbered-edges}
 use Rattle.tg_graph.proofs.listed_edges.ListedEdges.moved_to.Goals as goal
-use Rattle.tg_graph.proofs.listed_edges.ListedEdges.moved_to.Goals.{in-Some+in_ok-put, in_default}
 
-pub loop-place-preserved : goal.loop-place-preserved
-loop-place-preserved c =
-    let edges = c.args.self.now in
-    let place = c.loop-place.place in
-    let es = c.self.inside.edges.items in
-    elim c.match-at.branch [
-      | in-Some+in_ok-put w ↦
-          w.list-is ∙ w.in_ok-put.ensures.put ∙ ap (λ l. insert l place w.in-Some.edge) c.loop-place.invariant
-          ∙ take_one edges place w.in-Some.edge (sym w.in-Some.ensures)
-      | in_default w ↦
-          let within : place < length edges = omega (arith, c.loop-place-test.true, c.len-place-end.ensures, sym (ap length c.self.view_is), length-map es (named (names_of c.self.inside.targets))) in
-          absurd (none-some (get_or edges place ([], nothing)) (sym w.in_default.is ∙ c.at.ensures ∙ slice_get-get_or edges place ([], nothing) within))
-    ]
+pub returns-in_ok-edges-in-Some : goal.returns-in_ok-edges-in-Some
+returns-in_ok-edges-in-Some c =
+    let shared = c.in-Some.shared.now in
+    let edges = c.self.inside.edges.items in
+    let names : names_of c.new-targets.result ≡ shared = c.new-targets.ensures ∙ c.in_ok-clone-in-Some.ensures.cases in
+    let items : c.in_ok-edges-in-Some.edges.items ≡ edges = c.in_ok-edges-in-Some.ensures.items ∙ c.as_slice-in-Some.ensures.value in
+    let same : edges_of shared edges ≡ edges_of (names_of c.self.inside.targets) edges = numbered-edges (names_of c.self.inside.targets) shared edges (rw c.as_slice.ensures.value at c.are_numbered.ensures c.if-are_numbered.true) in
+    c.of_parts.ensures ∙ (λ i. edges_of (names i) (items i)) ∙ same ∙ c.self.view_is
