@@ -10,6 +10,9 @@ use std::marker::Model;
 #[derive(Drop)]
 struct Targets {
     marks: Vec<bool>,
+    // Nothing: with it a value takes 32 bytes, and one of many is found by a shift. A table is read cell by
+    // cell, where this is one step of fourteen.
+    _room: u64,
 }
 
 impl Model for Targets {
@@ -26,6 +29,7 @@ impl Targets {
     {
         Targets {
             marks: Vec::new(alloc),
+            _room: 0,
         }
     }
 

@@ -30,7 +30,6 @@ pub struct PairTable {
 
 impl Model for PairTable {
     ghost use Rattle.tg_analysis.specs.Tables.{Table};
-
     ghost use Rattle.std.specs.Prelude.{length};
     ghost use Rattle.tg_analysis.specs.Numbering.{AreCounted};
 
