@@ -8,7 +8,7 @@ use std::alloc::Global;
 use std::process::Abort;
 use std::test::Fail;
 
-// As many vertices as share their names with the rows, and then as many more.
+// As many vertices as share their names with the rows; more come after them.
 const COUNT: u32 = 12;
 
 // Adds an edge between two vertices with these numbers.
