@@ -1,6 +1,7 @@
 pub mod NameTests
 pub mod Accepted
 pub mod OneIsland
+pub mod OneRight
 pub mod Traced
 pub mod NoOthers
 pub mod Counts

@@ -3,6 +3,7 @@
 
 mod answers;
 mod blocks;
+mod bounded_search;
 mod by_target;
 mod chains;
 mod derivations;

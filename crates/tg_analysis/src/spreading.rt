@@ -38,20 +38,25 @@ pub struct Asked {
 // A flood from one vertex. A row is read when the flood comes to its vertex, or to find links that
 // lead back to the flood.
 #[derive(Drop)]
-struct Spread {
+pub(crate) struct Spread {
     // Positions that were met have a number.
-    flood: Flood,
+    pub(crate) flood: Flood,
     // For each position those whose rows were read before they were met, and which an edge links to
-    // it. There are no lists before a row is read.
-    back: Links,
+    // it. There are no lists before links are looked for that lead back.
+    pub(crate) back: Links,
     // How many positions were met and taken.
     followed: usize,
     // The rights that are asked for and that no position which was taken holds.
-    missing: Rights,
+    pub(crate) missing: Rights,
 }
 
 impl Spread {
-    fn from(alloc: Global, count: usize, start: usize, rights: Rights) -> Result<Spread, AllocError>
+    pub(crate) fn from(
+        alloc: Global,
+        count: usize,
+        start: usize,
+        rights: Rights,
+    ) -> Result<Spread, AllocError>
         requires { start < count }
         ensures { IfOk result (λ spread. BeginsAt count start rights spread) }
     {
@@ -94,7 +99,7 @@ impl Spread {
 
     // Takes up the last of the positions that wait, and goes on from it, unless no right is missing then.
     // It says whether it went on.
-    fn step(&mut self, graph: &Graph, asked: &Asked) -> Result<bool, AllocError>
+    pub(crate) fn step(&mut self, graph: &Graph, asked: &Asked) -> Result<bool, AllocError>
         requires graph { IsGraph graph.now }
         requires missing { IsMissing graph.now asked.now self.old.missing }
         requires spread { IsSpread graph.now asked.now self.old.missing
@@ -172,7 +177,7 @@ impl Spread {
     }
 
     // Reads the row of a position that was not met. If an edge links it to one that was, it is met.
-    fn read_row(&mut self, graph: &Graph, position: usize) -> Result<(), AllocError>
+    pub(crate) fn read_row(&mut self, graph: &Graph, position: usize) -> Result<(), AllocError>
         requires len { length self.old.flood.numbers.items ≡ length (keys_of graph.now) }
         requires back { length self.old.back ≡ length (keys_of graph.now) }
         requires within { position < length (keys_of graph.now) }
