@@ -20,7 +20,9 @@ use Rattle.tg_store.specs.Answers.{IsAnswer, AreAnswers, after_step, after_steps
 use Rattle.tg_store.specs.Histories.{replay}
 use Rattle.tg_store.specs.Touches.{IsClear, step_writes}
 use Rattle.tg_store.specs.Drafted.{drafted, GainsRows, IsDraftOf}
-use Rattle.tg_store.specs.Knowing.{IsKnown}
+use Rattle.tg_store.specs.declared.knowing.Known.{Known}
+use Rattle.tg_store.specs.declared.knowing.Known.TheVariants.{OfBase, OfWhole}
+use Rattle.tg_store.specs.Knowing.{IsKnown, forgotten}
 use Rattle.tg_store.specs.Seats.{IsSessionOn, Rests}
 use Rattle.tg_store.proofs.Ordered.{after_steps-push, AreAnswers-push, replay-append, replay-next, replay-push}
 use Rattle.tg_store.proofs.Commuting.{rows-more, draft-clear, answers-clear}
@@ -44,26 +46,36 @@ session-push base o p a on e drawn told named known = record {
   known = known;
 }
 
+-- what is still known where the base is another
+known-on : (base next : Entries) (draft : Changes) (known : Known) → IsKnown base draft known → IsKnown next draft (forgotten known)
+known-on base next draft (OfBase index) is = (is.0, record { islands = tt; listed = tt })
+known-on base next draft (OfWhole whole) is = tt
+
+-- to forget twice is to forget once
+forgotten-twice : (known : Known) → forgotten known ≡ forgotten (forgotten known)
+forgotten-twice (OfBase index) = refl
+forgotten-twice (OfWhole whole) = refl
+
 -- a session that rests on a record as well
-pub session-clear : (base : Entries) (committed : List Answered) (theirs : Changes) (o : OpenSession) → IsDraftOf base committed theirs → IsSessionOn base o → IsClear (graph_of base) committed (Some o.kept.items) → IsDistinct bytes_eq (keys_of base) → o.known ≡ None → IsSessionOn (laid_over base theirs) o
+pub session-clear : (base : Entries) (committed : List Answered) (theirs : Changes) (o : OpenSession) → IsDraftOf base committed theirs → IsSessionOn base o → IsClear (graph_of base) committed (Some o.kept.items) → IsDistinct bytes_eq (keys_of base) → o.known ≡ forgotten o.known → IsSessionOn (laid_over base theirs) o
 session-clear base committed theirs o le on clear distinct unknown = record {
   drawn = draft-clear base committed o.kept.items theirs o.draft le on.drawn clear distinct on.answers;
   answers = answers-clear base committed o.kept.items theirs o.draft le on.drawn clear distinct on.answers;
   named = on.named;
-  known = subst (IsKnown (laid_over base theirs) o.draft) (sym unknown) tt;
+  known = subst (IsKnown (laid_over base theirs) o.draft) (sym unknown) (known-on base (laid_over base theirs) o.draft o.known on.known);
 }
 
--- a session of which nothing is known
+-- a session that knows what is still known where the base is another
 abbrev pub unknowing : OpenSession → OpenSession
-unknowing o = record { draft = o.draft; kept = o.kept; known = None }
+unknowing o = record { draft = o.draft; kept = o.kept; known = forgotten o.known }
 
--- the same, where it has nothing known from then on
+-- the same, where it forgets the rest from then on
 pub unknowing-clear : (base : Entries) (committed : List Answered) (theirs : Changes) (o : OpenSession) → IsDraftOf base committed theirs → IsSessionOn base o → IsClear (graph_of base) committed (Some o.kept.items) → IsDistinct bytes_eq (keys_of base) → IsSessionOn (laid_over base theirs) (unknowing o)
 unknowing-clear base committed theirs o le on clear distinct =
-    session-clear base committed theirs (unknowing o) le (record { drawn = on.drawn; answers = on.answers; named = on.named; known = tt }) clear distinct refl
+    session-clear base committed theirs (unknowing o) le (record { drawn = on.drawn; answers = on.answers; named = on.named; known = known-on base base o.draft o.known on.known }) clear distinct (forgotten-twice o.known)
 
 pub seat-clear : (base : Entries) (committed : List Answered) (theirs : Changes) (session : Option OpenSession) → IsDraftOf base committed theirs → IfSome session (IsSessionOn base)
-    → IsClear (graph_of base) committed (option_map (λ (o : OpenSession). o.kept.items) session) → IsDistinct bytes_eq (keys_of base) → IfSome session (λ (o : OpenSession). o.known ≡ None) → IfSome session (IsSessionOn (laid_over base theirs))
+    → IsClear (graph_of base) committed (option_map (λ (o : OpenSession). o.kept.items) session) → IsDistinct bytes_eq (keys_of base) → IfSome session (λ (o : OpenSession). o.known ≡ forgotten o.known) → IfSome session (IsSessionOn (laid_over base theirs))
 seat-clear base committed theirs None le on clear distinct unknown = tt
 seat-clear base committed theirs (Some o) le on clear distinct unknown = session-clear base committed theirs o le on clear distinct unknown
 

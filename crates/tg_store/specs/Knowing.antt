@@ -1,15 +1,29 @@
 -- What a session knows of the graph that it asks.
-use Rattle.std.specs.Prelude.{◌≡◌, Option, IfSome}
+use Rattle.std.specs.Prelude.{◌≡◌, [], Bool, true, false, Some, None, IfSome}
 use Rattle.tg_graph.specs.Rows.{Entries}
 use Rattle.tg_graph.specs.Drafts.{Changes, laid_over}
-use Rattle.tg_analysis.specs.ByTarget.{IsIndexOf}
+use Rattle.tg_analysis.specs.ByTarget.{IsIndexOf, unasked}
+use Rattle.tg_store.specs.declared.knowing.Whole.{Whole}
 use Rattle.tg_store.specs.declared.knowing.Known.{Known}
+use Rattle.tg_store.specs.declared.knowing.Known.TheVariants.{OfBase, OfWhole}
 
--- the whole is what the draft stands for over the base, and the index is that of the whole
-pub record Knows (base : Entries) (draft : Changes) (known : Known) : Type 0 where
-  pub whole : known.whole ≡ laid_over base draft
-  pub index : IsIndexOf known.whole known.index
+-- the graph is what the draft stands for over the base, and the index is that of the graph
+pub record Knows (base : Entries) (draft : Changes) (whole : Whole) : Type 0 where
+  pub graph : whole.graph ≡ laid_over base draft
+  pub index : IsIndexOf whole.graph whole.index
 
--- so, if anything is known
-abbrev pub IsKnown : Entries → Changes → Option Known → Type 0
-IsKnown base draft known = IfSome known (Knows base draft)
+-- what is known of a draft that changes nothing is of the base; of another, of what it stands for
+abbrev pub IsKnown : Entries → Changes → Known → Type 0
+IsKnown base draft (OfBase index) = (draft ≡ ([], [])) × IsIndexOf base index
+IsKnown base draft (OfWhole whole) = IfSome whole (Knows base draft)
+
+-- the graph that the draft stands for is known
+abbrev pub has_whole : Known → Bool
+has_whole (OfWhole (Some _)) = true
+has_whole (OfWhole None) = false
+has_whole (OfBase _) = false
+
+-- what is still known where the base is another: whether the draft changes nothing
+abbrev pub forgotten : Known → Known
+forgotten (OfBase _) = OfBase unasked
+forgotten (OfWhole _) = OfWhole None

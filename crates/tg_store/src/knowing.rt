@@ -1,71 +1,161 @@
 //! What a session knows of the graph that it asks.
-ghost use Rattle.std.specs.Prelude.{◌≡◌, IfOk, None};
+ghost use Rattle.std.specs.Prelude.{◌≡◌, IfOk, IfSome, None};
 ghost use Rattle.tg_graph.specs.GraphOf.{graph_of};
-ghost use Rattle.tg_graph.specs.Drafts.{Fits};
-ghost use Rattle.tg_analysis.specs.ByTarget.{IsIndexOf};
+ghost use Rattle.tg_graph.specs.Rows.{Entries};
+ghost use Rattle.tg_graph.specs.Drafts.{Changes, Fits};
+ghost use Rattle.tg_analysis.specs.ByTarget.{IsIndexOf, unasked};
 ghost use Rattle.tg_store.specs.Answers.{IsAnswer, unknown_of_two};
-ghost use Rattle.tg_store.specs.Knowing.{Knows, IsKnown};
+ghost use Rattle.tg_store.specs.Drafted.{drafted};
+ghost use Rattle.tg_store.specs.Knowing.{Knows, IsKnown, has_whole, forgotten};
 
 use std::alloc::{AllocError, Global};
 use tg_analysis::{AskFault, SharingIndex};
 use tg_graph::{Draft, Graph, Name, Reply, Right, Step};
 
-/// The graph that a draft stands for, and its index: what is made at the first question about sharing
-/// and serves for those that follow, until a rule is carried out.
+/// The graph that a draft stands for, and its index.
 #[derive(Drop)]
-pub struct Known {
-    pub(crate) whole: Graph,
+pub struct Whole {
+    pub(crate) graph: Graph,
     pub(crate) index: SharingIndex,
 }
 
-// What is known of a draft.
-fn known_of(alloc: Global, base: &Graph, draft: &Draft) -> Result<Known, AllocError>
-    requires { Fits base.now draft.now }
-    ensures { IfOk result (Knows base.now draft.now) }
-{
-    let whole = draft.whole(base)?;
-    let index = SharingIndex::of(alloc, &whole)?;
-    Ok(Known { whole, index })
+/// What a session knows of the graph that its draft stands for, from the questions about sharing that came
+/// before, until a rule is carried out or a record is taken in.
+#[derive(Drop)]
+pub enum Known {
+    /// The draft changes nothing, and the index is that of the base.
+    OfBase(SharingIndex),
+    /// The draft may have changes.
+    OfWhole(Option<Whole>),
 }
 
-/// Makes known what is not. An error changes nothing.
-pub fn learn(
+// Answers by the index of a graph whether x can come to have a right over y, which are vertices.
+fn reply_by(
+    index: &mut SharingIndex,
     alloc: Global,
-    base: &Graph,
-    draft: &Draft,
-    known: Option<Known>,
-) -> Result<Known, AllocError>
-    requires fits { Fits base.now draft.now }
-    requires known { IsKnown base.now draft.now known }
-    ensures { IfOk result (Knows base.now draft.now) }
+    graph: &Graph,
+    right: Right,
+    x: Name,
+    y: Name,
+) -> Result<Reply, AllocError>
+    requires index { IsIndexOf graph.now index.old }
+    requires vertices { unknown_of_two (graph_of graph.now) x y ≡ None }
+    ensures reply { IfOk result
+        (λ reply. IsAnswer (graph_of graph.now) (Step.Share right x y) reply) }
+    ensures index { IsIndexOf graph.now index.new }
 {
-    match known {
-        Some(known) => Ok(known),
-        None => known_of(alloc, base, draft),
+    match index.can_share(alloc, graph, right, x, y) {
+        Ok(true) => Ok(Reply::Yes),
+        Ok(false) => Ok(Reply::No),
+        // both names are vertices, so only memory can be wanting
+        Err(AskFault::Unknown(_) | AskFault::TooLarge | AskFault::Memory) => Err(AllocError),
     }
 }
 
+// What is known of a draft: what was, or what is made now.
+fn whole_of(whole: Option<Whole>, base: &Graph, draft: &Draft) -> Result<Whole, AllocError>
+    requires fits { Fits base.now draft.now }
+    requires whole { IfSome whole (Knows base.now draft.now) }
+    ensures { IfOk result (Knows base.now draft.now) }
+{
+    if let Some(whole) = whole {
+        return Ok(whole);
+    }
+    Ok(Whole {
+        graph: draft.whole(base)?,
+        index: SharingIndex::new(),
+    })
+}
+
+// Answers for a draft. The graph that it stands for is made where it is not known.
+fn reply_on_whole(
+    whole: &mut Option<Whole>,
+    alloc: Global,
+    base: &Graph,
+    draft: &Draft,
+    right: Right,
+    x: Name,
+    y: Name,
+) -> Result<Reply, AllocError>
+    requires fits { Fits base.now draft.now }
+    requires whole { IfSome whole.old (Knows base.now draft.now) }
+    requires vertices { unknown_of_two (drafted base.now draft.now) x y ≡ None }
+    ensures reply { IfOk result
+        (λ reply. IsAnswer (drafted base.now draft.now) (Step.Share right x y) reply) }
+    ensures whole { IfSome whole.new (Knows base.now draft.now) }
+{
+    let mut made = whole_of(whole.take(), base, draft)?;
+    let reply = reply_by(&mut made.index, alloc, &made.graph, right, x, y);
+    *whole = Some(made);
+    reply
+}
+
 impl Known {
-    /// Answers whether x can come to have a right over y, which are vertices.
+    /// What is known of a draft that changes nothing, before the first question.
+    pub fn unasked() -> Known
+        ensures { result ≡ Known.OfBase unasked }
+    {
+        Known::OfBase(SharingIndex::new())
+    }
+
+    /// Answers whether x can come to have a right over y, which are vertices. What is found on the way is
+    /// known from then on.
     pub fn reply(
         &mut self,
         alloc: Global,
+        base: &Graph,
+        draft: &Draft,
         right: Right,
         x: Name,
         y: Name,
     ) -> Result<Reply, AllocError>
-        requires index { IsIndexOf self.old.whole self.old.index }
-        requires vertices { unknown_of_two (graph_of self.old.whole) x y ≡ None }
+        requires fits { Fits base.now draft.now }
+        requires known { IsKnown base.now draft.now self.old }
+        requires vertices { unknown_of_two (drafted base.now draft.now) x y ≡ None }
         ensures reply { IfOk result
-            (λ reply. IsAnswer (graph_of self.old.whole) (Step.Share right x y) reply) }
-        ensures whole { self.new.whole ≡ self.old.whole }
-        ensures index { IsIndexOf self.new.whole self.new.index }
+            (λ reply. IsAnswer (drafted base.now draft.now) (Step.Share right x y) reply) }
+        ensures known { IsKnown base.now draft.now self.new }
     {
-        match self.index.can_share(alloc, &self.whole, right, x, y) {
-            Ok(true) => Ok(Reply::Yes),
-            Ok(false) => Ok(Reply::No),
-            // both names are vertices, so only memory can be wanting
-            Err(AskFault::Unknown(_) | AskFault::TooLarge | AskFault::Memory) => Err(AllocError),
+        match self {
+            Known::OfBase(index) => reply_by(index, alloc, base, right, x, y),
+            Known::OfWhole(whole) => reply_on_whole(whole, alloc, base, draft, right, x, y),
+        }
+    }
+
+    /// Whether the graph that the draft stands for is known.
+    pub fn has_whole(&self) -> bool
+        ensures { result ≡ has_whole self.now }
+    {
+        match self {
+            Known::OfBase(_) | Known::OfWhole(None) => false,
+            Known::OfWhole(Some(_)) => true,
+        }
+    }
+
+    /// Knows nothing of a draft from then on, which may have changes.
+    pub fn forget(&mut self)
+        ensures { self.new ≡ Known.OfWhole None }
+    {
+        *self = Known::OfWhole(None);
+    }
+
+    /// Gives up the graph that the draft stands for, and its index.
+    pub fn give_up_whole(&mut self)
+        ensures { (base : Entries) → (draft : Changes) → IsKnown base draft self.old → IsKnown base draft
+            self.new }
+    {
+        if let Known::OfWhole(whole) = self {
+            *whole = None;
+        }
+    }
+
+    /// What is still known where the base is another.
+    pub fn forgotten(self) -> Known
+        ensures { result ≡ forgotten self }
+    {
+        match self {
+            Known::OfBase(_) => Known::unasked(),
+            Known::OfWhole(_) => Known::OfWhole(None),
         }
     }
 }

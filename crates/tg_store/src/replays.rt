@@ -13,7 +13,7 @@ ghost use Rattle.tg_store.specs.Drafted.{drafted, GainsRows, IsDraftOf};
 ghost use Rattle.tg_store.specs.Knowing.{IsKnown};
 
 use crate::answers::Answered;
-use crate::knowing::{self, Known};
+use crate::knowing::Known;
 use crate::records::Record;
 use std::alloc::{AllocError, Global};
 use tg_graph::{Draft, Graph, MOST_VERTICES, Name, Refusal, Reply, Right, Rule, RuleFault, Step};
@@ -98,13 +98,13 @@ fn answer_holds(base: &Graph, draft: &Draft, right: Right, x: Name, y: Name) -> 
     }
 }
 
-// Answers whether x can come to have a right over y. What is known of the draft serves for it, and is
-// made known where it is not.
+// Answers whether x can come to have a right over y. Where x has it, a look is enough; else what is known
+// of the draft serves for it.
 fn answer_share(
     alloc: Global,
     base: &Graph,
     draft: &Draft,
-    known: &mut Option<Known>,
+    known: &mut Known,
     right: Right,
     x: Name,
     y: Name,
@@ -118,17 +118,31 @@ fn answer_share(
     if let Some(refusal) = unknown_of_two(base, draft, x, y) {
         return Ok(Reply::Refused(refusal));
     }
-    let mut now = knowing::learn(alloc, base, draft, known.take())?;
-    let reply = now.reply(alloc, right, x, y);
-    *known = Some(now);
-    reply
+    let has_it = draft.holds(base, x, right, y);
+    if has_it {
+        return Ok(Reply::Yes);
+    }
+    known.reply(alloc, base, draft, right, x, y)
+}
+
+// Gives up the graph that the draft stands for, if it is known, before a rule is carried out: no row of the
+// draft has another owner when the rule changes it.
+fn make_way(base: &Graph, draft: &Draft, known: &mut Known, rule: &Rule)
+    requires fits { Fits base.now draft.now }
+    requires named { IsNamed (rights_of rule.now) }
+    requires known { IsKnown base.now draft.now known.old }
+    ensures { IsKnown base.now draft.now known.new }
+{
+    if known.has_whole() && draft.check(base, rule).is_ok() {
+        known.give_up_whole();
+    }
 }
 
 // Carries out a rule. What was known of the draft is no longer known where it changes it.
 fn carry_out_known(
     base: &Graph,
     draft: &mut Draft,
-    known: &mut Option<Known>,
+    known: &mut Known,
     rule: &Rule,
 ) -> Result<Reply, AllocError>
     requires fits { Fits base.now draft.old }
@@ -145,9 +159,10 @@ fn carry_out_known(
     ensures fits { Fits base.now draft.new }
     ensures known { IsKnown base.now draft.new known.new }
 {
+    make_way(base, draft, known, rule);
     let reply = carry_out(base, draft, rule)?;
     if let Reply::Done = reply {
-        *known = None;
+        known.forget();
     }
     Ok(reply)
 }
@@ -157,7 +172,7 @@ pub fn answer(
     alloc: Global,
     base: &Graph,
     draft: &mut Draft,
-    known: &mut Option<Known>,
+    known: &mut Known,
     step: &Step,
 ) -> Result<Reply, AllocError>
     requires fits { Fits base.now draft.old }

@@ -14,6 +14,7 @@ ghost use Rattle.tg_store.specs.Histories.{count_of, replay};
 ghost use Rattle.tg_store.specs.Touches.{IsClear};
 ghost use Rattle.tg_store.specs.Trails.{HasRoom, SameTrail, IsTrail, LeadsBy, TakesOver, vertices_at};
 ghost use Rattle.tg_store.specs.Seats.{IsSessionOn};
+ghost use Rattle.tg_store.specs.Knowing.{forgotten};
 ghost use Rattle.tg_store.specs.Worlds.{is_short_of_memory, one_further, fresh_seat, Begins, TakesIn, Learns, Stages, Aborts, Joins, Puts};
 
 use crate::answers::{Answered, Steps};
@@ -32,7 +33,7 @@ use tg_graph::{Draft, Graph, Refusal, Reply, Rule, Step};
 pub struct OpenSession {
     pub(crate) draft: Draft,
     pub(crate) kept: Vec<Answered>,
-    pub(crate) known: Option<Known>,
+    pub(crate) known: Known,
 }
 
 /// A seat: how many records it has taken in, the graph that they lead to, how many sessions it has
@@ -68,19 +69,19 @@ impl OpenSession {
         OpenSession {
             draft: base.draft(),
             kept: Vec::new(alloc),
-            known: None,
+            known: Known::unasked(),
         }
     }
 
     /// The session with a draft and steps, where nothing is known of the graph that the draft stands
     /// for.
     pub(crate) fn of_parts(draft: Draft, kept: Vec<Answered>) -> OpenSession
-        ensures { result ≡ record { draft = draft; kept = kept; known = None } }
+        ensures { result ≡ record { draft = draft; kept = kept; known = Known.OfWhole None } }
     {
         OpenSession {
             draft,
             kept,
-            known: None,
+            known: Known::OfWhole(None),
         }
     }
 
@@ -93,12 +94,16 @@ impl OpenSession {
         (draft, kept)
     }
 
-    /// The same session, where nothing is known of the graph that its draft stands for.
+    /// The same session, which knows what is still known where the base is another.
     pub(crate) fn unknowing(self) -> OpenSession
-        ensures { result ≡ record { draft = self.draft; kept = self.kept; known = None } }
+        ensures { result ≡ record { draft = self.draft; kept = self.kept; known = forgotten self.known } }
     {
-        let (draft, kept) = self.into_parts();
-        OpenSession::of_parts(draft, kept)
+        let OpenSession { draft, kept, known } = self;
+        OpenSession {
+            draft,
+            kept,
+            known: known.forgotten(),
+        }
     }
 
     // Answers a step, and keeps it with its reply. An error changes no step.
@@ -126,10 +131,10 @@ impl OpenSession {
     }
 }
 
-// The same session, if there is one, where nothing is known of the graph that its draft stands for.
+// The same session, if there is one, which knows what is still known where the base is another.
 fn unknowing(session: Option<OpenSession>) -> Option<OpenSession>
     ensures seen { option_map (λ o. o.kept.items) result ≡ option_map (λ o. o.kept.items) session }
-    ensures unknown { IfSome result (λ o. o.known ≡ None) }
+    ensures unknown { IfSome result (λ o. o.known ≡ forgotten o.known) }
     ensures on { (base : Entries) → IfSome session (IsSessionOn base) → IfSome result
         (IsSessionOn base) }
 {
@@ -279,7 +284,7 @@ impl SeatState {
     }
 
     // Lays the steps of a record on the graph. The draft of the open session, of which the record
-    // is clear, is as it was. An error changes nothing.
+    // is clear, is as it was. An error changes nothing but what that session knows.
     fn lay(&mut self, committed: &[Answered]) -> Result<(), AllocError>
         requires consistent { IsConsistent self.old }
         requires named { All (λ a. IsNamedStep a.step) committed.now }
@@ -300,7 +305,7 @@ impl SeatState {
         Ok(())
     }
 
-    // Takes a record in. An error changes nothing.
+    // Takes a record in. An error changes nothing but what the open session knows.
     fn advance(&mut self, next: &Record) -> Result<(), AllocError>
         requires consistent { IsConsistent self.old }
         requires answers { AreAnswers (graph_of self.old.graph) next.now.steps }
