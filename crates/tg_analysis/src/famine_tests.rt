@@ -4,6 +4,7 @@
 use crate::gates::{Gate, OpenGate};
 use crate::memory_tests::three;
 use crate::questions::AskFault;
+use crate::sharing_index::SharingIndex;
 use crate::table_faults::TableFault;
 use crate::test_answers::{
     all_derived, assert_no_table, assert_numbers, assert_table, derived, islands_of, shares,
@@ -50,5 +51,21 @@ fn no_rights_asked_for(rt: HostRuntime) -> Result<(), Fail> {
     let graph = three(rt.alloc())?;
     let (x, y) = (Name::helper(0), Name::helper(2));
     assert!(rt; shares_all(rt.alloc(), &graph, Rights::empty(), x, y) == Ok(true));
+    Ok(())
+}
+
+// Where the islands were found, each question is answered, though the edges can't be listed.
+#[test]
+fn an_index_read(rt: HostRuntime) -> Result<(), Fail> {
+    let graph = three(rt.alloc())?;
+    let (x, y) = (Name::helper(0), Name::helper(2));
+    let mut index = SharingIndex::new();
+    let first = index.can_share(rt.alloc(), &graph, Right::W, x, y);
+    let second = index.can_share(rt.alloc(), &graph, Right::W, x, y);
+    if first == Ok(false) && second == Ok(false) && index.has_found() {
+        assert!(rt; index.can_share(rt.alloc(), &graph, Right::R, x, y) == Ok(true));
+        assert!(rt; index.can_share(rt.alloc(), &graph, Right::W, x, y) == Ok(false));
+        assert!(rt; index.can_share(rt.alloc(), &graph, Right::R, x, y) == Ok(true));
+    }
     Ok(())
 }

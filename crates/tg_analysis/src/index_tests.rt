@@ -58,8 +58,8 @@ fn assert_kept_agrees(rt: &impl Abort, alloc: Global, graph: &Graph, right: Righ
 
 #[test]
 fn an_index_that_is_kept_says_the_same(rt: HostRuntime) -> Result<(), Fail> {
-    // searches may look at 13 vertices and edges: a holds each right over itself, which the first question
-    // finds at 3 of them; the islands are found at one of the next, and then the edges
+    // the first question finds near a what it asks for; once questions have looked at 13 rows and edges, the
+    // next one finds the islands, and once they have looked at 7 rows more, the next one lists the edges
     let g = graph(
         &rt,
         rt.alloc(),

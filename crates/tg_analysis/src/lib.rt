@@ -3,7 +3,6 @@
 
 mod answers;
 mod blocks;
-mod bounded_search;
 mod by_target;
 mod chains;
 mod derivations;

@@ -1,10 +1,12 @@
 // Each test passes whichever one request for memory is refused, which `make refusals` tries. Where a
 // call was refused memory, its second try has it.
 ghost use Rattle.tg_graph.specs.Sets.{IsNamed};
+ghost use Rattle.tg_analysis.specs.ByTarget.{IsIndexOf};
 
 use crate::gates::OpenGate;
 use crate::numbering::Islands;
 use crate::questions::AskFault;
+use crate::sharing_index::SharingIndex;
 use crate::table_faults::TableFault;
 use crate::tables::PairTable;
 use crate::test_answers::{
@@ -105,6 +107,36 @@ fn refused_questions_with_a_no(rt: HostRuntime) -> Result<(), Fail> {
     assert!(rt; shared(rt.alloc(), &graph, Right::W) == Ok(false));
     assert!(rt; shared_all(rt.alloc(), &graph, Rights::READ.union(Rights::WRITE)) == Ok(false));
     assert!(rt; rule_count_again(rt.alloc(), &graph, Right::W) == Ok(None));
+    Ok(())
+}
+
+// Whether _0 can come to have the right over _2, by an index that is kept.
+fn indexed(
+    alloc: Global,
+    index: &mut SharingIndex,
+    graph: &Graph,
+    right: Right,
+) -> Result<bool, AskFault>
+    requires { IsIndexOf graph.now index.old }
+    ensures { IsIndexOf graph.now index.new }
+{
+    let (x, y) = (Name::helper(0), Name::helper(2));
+    match index.can_share(alloc, graph, right, x, y) {
+        Err(AskFault::Memory) => index.can_share(alloc, graph, right, x, y),
+        outcome => outcome,
+    }
+}
+
+// The first question searches, the second finds the islands, and the third lists the edges.
+#[test]
+fn refused_an_index(rt: HostRuntime) -> Result<(), Fail> {
+    let graph = three(rt.alloc())?;
+    let mut index = SharingIndex::new();
+    assert!(rt; indexed(rt.alloc(), &mut index, &graph, Right::W) == Ok(false));
+    assert!(rt; indexed(rt.alloc(), &mut index, &graph, Right::R) == Ok(true));
+    assert!(rt; indexed(rt.alloc(), &mut index, &graph, Right::W) == Ok(false));
+    assert!(rt; indexed(rt.alloc(), &mut index, &graph, Right::R) == Ok(true));
+    assert!(rt; indexed(rt.alloc(), &mut index, &graph, Right::W) == Ok(false));
     Ok(())
 }
 

@@ -3,16 +3,15 @@ ghost use Rattle.std.specs.Prelude.{◌≡◌, ◌↔◌, true, false, None, IsS
 ghost use Rattle.tg_graph.specs.GraphOf.{graph_of};
 ghost use Rattle.tg_graph.specs.Graphs.{has_vertex};
 ghost use Rattle.tg_graph.specs.RuleLists.{CanShare};
-ghost use Rattle.tg_analysis.specs.ByTarget.{HoldsIn, IsIndexOf, unasked};
+ghost use Rattle.tg_analysis.specs.ByTarget.{HoldsIn, IsIndexOf, has_found, unasked};
 ghost use Rattle.tg_analysis.specs.Numbering.{AreIslands};
 ghost use Rattle.tg_analysis.specs.Questions.{question_fault, IsDueFault};
 
-use crate::bounded_search::search_near;
 use crate::by_target::EdgesByTarget;
 use crate::edge_counts::edge_count;
 use crate::numbering::Islands;
 use crate::questions::AskFault;
-use crate::spreading::Asked;
+use crate::spreading::{Asked, search_island};
 use crate::{joining, laws};
 use std::alloc::{AllocError, Global};
 use std::marker::Model;
@@ -21,28 +20,30 @@ use tg_graph::{Graph, Name, Right, Rights};
 // The islands are found once searches have done half as much work as that takes.
 const SEARCHES: usize = 2;
 
-// To begin a search takes as long as to look at so small a part of the vertices.
+// To begin a search takes at least as long as to look at so small a part of the vertices.
 const BEGINNING: usize = 64;
 
-// The edges are listed once half as many rows may have been looked at, which takes about as long.
+// The edges are listed once half as many rows were looked at, which takes about as long.
 const LOOKS_A_LIST: usize = 2;
 
 /// What is known of a graph from the questions about sharing that it was asked: first nothing, then its
 /// islands, and last its edges by their targets.
 ///
-/// A question searches x's island, as `can_share` does. Once searches have looked at half as many vertices
-/// and edges as there are, the islands are found, in one pass over the edges, which takes some 70 bytes a
-/// vertex and leaves 8; a question then costs a look at each row of an island. As soon as half as many looks
-/// as there are edges may have been made, the edges are listed, which takes 16 bytes an edge and 4 a vertex;
-/// a question then costs the edges to one vertex.
+/// A question searches x's island, as `can_share` does. Once searches have looked at half as many rows and
+/// edges as there are, the next question finds the islands, in one pass over the edges, which takes some 70
+/// bytes a vertex and leaves 8; a question then costs a look at each row of an island. Once half as many rows
+/// were looked at as there are edges, the next question lists the edges, which takes 16 bytes an edge and 4 a
+/// vertex; a question then costs the edges to one vertex. So the calls before have paid for each of the two.
+/// Where memory is refused for them, questions are answered as before, and they are due again as late as the
+/// first time.
 #[derive(Drop)]
 pub struct SharingIndex {
     islands: Option<Islands>,
     edges: Option<EdgesByTarget>,
-    // How many edges there are, and how much work is left to searches, once the first question was asked;
-    // and how many looks at rows there may have been. They decide no answer.
-    edge_count: usize,
-    room: Option<usize>,
+    // How many edges there are, once a question was asked; how much work searches have done, and how many rows
+    // were looked at since. They decide no answer.
+    edge_count: Option<usize>,
+    work: usize,
     looks: usize,
 }
 
@@ -54,8 +55,16 @@ impl Model for SharingIndex {
     ghost view = { λ t. record { numbers = t.islands; listed = t.edges } };
 }
 
-// Whether a vertex of the island with the number holds the right over y.
-fn holds_in(graph: &Graph, islands: &Islands, right: Right, number: usize, y: Name) -> bool
+// Whether a vertex of the island with the number holds the right over y. How many positions it came to is
+// added to the looks.
+fn holds_in(
+    graph: &Graph,
+    islands: &Islands,
+    right: Right,
+    number: usize,
+    y: Name,
+    looks: &mut usize,
+) -> bool
     requires { AreIslands (graph_of graph.now) islands.now }
     ensures { IsTrue result ↔ HoldsIn graph.now islands.now right number y }
 {
@@ -64,9 +73,11 @@ fn holds_in(graph: &Graph, islands: &Islands, right: Right, number: usize, y: Na
         if islands.of(position) == Some(number)
             && graph.rights_near(position, y, likely).has(right)
         {
+            *looks = looks.saturating_add(position);
             return true;
         }
     }
+    *looks = looks.saturating_add(graph.len());
     false
 }
 
@@ -78,27 +89,35 @@ impl SharingIndex {
         SharingIndex {
             islands: None,
             edges: None,
-            edge_count: 0,
-            room: None,
+            edge_count: None,
+            work: 0,
             looks: 0,
         }
     }
 
-    // How much work is left to searches. The first question counts the edges.
-    fn room(&mut self, graph: &Graph) -> usize
+    /// Whether it has found islands or edges, which it keeps.
+    pub fn has_found(&self) -> bool
+        ensures { result ≡ has_found self.now }
+    {
+        self.islands.is_some() || self.edges.is_some()
+    }
+
+    // How many edges there are. The first question counts them.
+    fn edge_count(&mut self, graph: &Graph) -> usize
         ensures { self.new ≡ self.old }
     {
-        match self.room {
-            Some(room) => room,
+        match self.edge_count {
+            Some(count) => count,
             None => {
-                self.edge_count = edge_count(graph);
-                graph.len().saturating_add(self.edge_count) / SEARCHES
+                let count = edge_count(graph);
+                self.edge_count = Some(count);
+                count
             }
         }
     }
 
-    // Searches x's island, as long as the searches before leave room for it.
-    fn finds_near(
+    // Searches x's island for a holder of the right over y: whether some list of rules gives it x.
+    fn search(
         &mut self,
         alloc: Global,
         graph: &Graph,
@@ -108,55 +127,56 @@ impl SharingIndex {
     ) -> Result<bool, AllocError>
         requires source { has_vertex (graph_of graph.now) x ≡ true }
         requires target { has_vertex (graph_of graph.now) y ≡ true }
-        ensures found { IfOk result
-            (λ found. IsTrue found → CanShare (graph_of graph.now) right x y) }
+        ensures exact { IfOk result
+            (λ answer. IsTrue answer ↔ CanShare (graph_of graph.now) right x y) }
         ensures same { self.new ≡ self.old }
     {
-        let room = self.room(graph);
-        if room == 0 || self.islands.is_some() {
-            return Ok(false);
-        }
         let rights = Rights::of(right);
-        let near = search_near(alloc, graph, &Asked { rights, x, y }, room)?;
-        self.room = Some(near.room.saturating_sub(graph.len() / BEGINNING));
-        Ok(near.found)
+        let mut work = graph.len() / BEGINNING;
+        let answer = search_island(alloc, graph, &Asked { rights, x, y }, &mut work)?;
+        self.work = self.work.saturating_add(work);
+        Ok(answer)
     }
 
-    // Finds the islands, where they are not known.
-    fn find_islands(&mut self, alloc: Global, graph: &Graph) -> Result<(), AllocError>
+    // Finds the islands, if that is due. Where memory is refused, they are due again after as much work.
+    fn find_islands(&mut self, alloc: Global, graph: &Graph)
         requires { IsIndexOf graph.now self.old }
-        ensures index { IsIndexOf graph.now self.new }
-        ensures known { OnOk result (IsSome self.new.numbers) }
+        ensures { IsIndexOf graph.now self.new }
     {
-        if self.islands.is_none() {
-            self.islands = Some(joining::islands(alloc, graph)?);
+        let size = graph.len().saturating_add(self.edge_count(graph));
+        if self.work < size / SEARCHES || self.islands.is_some() {
+            return;
         }
-        Ok(())
+        match joining::islands(alloc, graph) {
+            Ok(islands) => self.islands = Some(islands),
+            Err(AllocError) => self.work = 0,
+        }
     }
 
-    // Lists the edges, if that is due. Where memory is refused, they are not listed until that is due again.
+    // Lists the edges, if that is due. Where memory is refused, they are due again after as many looks.
     fn list_edges(&mut self, alloc: Global, graph: &Graph)
         requires { IsIndexOf graph.now self.old }
         ensures index { IsIndexOf graph.now self.new }
         ensures islands { self.new.numbers ≡ self.old.numbers }
     {
-        if self.looks < self.edge_count / LOOKS_A_LIST || self.edges.is_some() {
-            self.looks = self.looks.saturating_add(graph.len());
+        let count = self.edge_count(graph);
+        if self.looks < count / LOOKS_A_LIST || self.edges.is_some() {
             return;
         }
-        match EdgesByTarget::of(alloc, graph, self.edge_count) {
+        match EdgesByTarget::of(alloc, graph, count) {
             Ok(edges) => self.edges = Some(edges),
             Err(AllocError) => self.looks = 0,
         }
     }
 
-    // Whether some list of rules gives x the right over y.
-    fn answer(&self, graph: &Graph, right: Right, x: Name, y: Name) -> bool
-        requires index { IsIndexOf graph.now self.now }
-        requires known { IsSome self.now.numbers }
+    // Whether some list of rules gives x the right over y, by the islands.
+    fn answer(&mut self, graph: &Graph, right: Right, x: Name, y: Name) -> bool
+        requires index { IsIndexOf graph.now self.old }
+        requires known { IsSome self.old.numbers }
         requires source { has_vertex (graph_of graph.now) x ≡ true }
         requires target { has_vertex (graph_of graph.now) y ≡ true }
-        ensures { IsTrue result ↔ CanShare (graph_of graph.now) right x y }
+        ensures exact { IsTrue result ↔ CanShare (graph_of graph.now) right x y }
+        ensures same { self.new ≡ self.old }
     {
         laws::shared_exactly();
         let _ = graph.len();
@@ -171,16 +191,15 @@ impl SharingIndex {
         };
         match &self.edges {
             Some(edges) => edges.leads(islands, right, number, to),
-            None => holds_in(graph, islands, right, number, y),
+            None => holds_in(graph, islands, right, number, y, &mut self.looks),
         }
     }
 
     /// Whether some list of rules, each accepted in its turn, gives x the right over y in the graph of
     /// which this is the index: the answer of `can_share`.
     ///
-    /// The errors are `Unknown` with the first of x and y that is no vertex, and want of memory, which leaves
-    /// it the index of the graph; where the edges can't be listed, the rows are looked at. It is never
-    /// `TooLarge`.
+    /// The errors are `Unknown` with the first of x and y that is no vertex, and want of memory for a search,
+    /// which leaves it the index of the graph. It is never `TooLarge`.
     pub fn can_share(
         &mut self,
         alloc: Global,
@@ -204,10 +223,10 @@ impl SharingIndex {
         if !graph.knows(y) {
             return Err(AskFault::Unknown(y));
         }
-        if self.finds_near(alloc, graph, right, x, y)? {
-            return Ok(true);
+        self.find_islands(alloc, graph);
+        if self.islands.is_none() {
+            return Ok(self.search(alloc, graph, right, x, y)?);
         }
-        self.find_islands(alloc, graph)?;
         self.list_edges(alloc, graph);
         Ok(self.answer(graph, right, x, y))
     }

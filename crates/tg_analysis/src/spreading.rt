@@ -1,4 +1,6 @@
 //! The flood from one vertex that looks for holders of rights.
+//!
+//! It counts its work: each row that it looks at for y, and each edge that it reads. The count decides no answer.
 ghost use Rattle.std.specs.Prelude.{◌≡◌, ◌↔◌, ◌<◌, ◌+◌, ◌∷◌, [], ℕ, true, IsTrue, IfOk, OnOk, MatchBool, ◌⊎◌, length};
 ghost use Rattle.std.specs.Map.{keys_of};
 ghost use Rattle.tg_graph.specs.declared.right_sets.Right.{Right};
@@ -38,25 +40,20 @@ pub struct Asked {
 // A flood from one vertex. A row is read when the flood comes to its vertex, or to find links that
 // lead back to the flood.
 #[derive(Drop)]
-pub(crate) struct Spread {
+struct Spread {
     // Positions that were met have a number.
-    pub(crate) flood: Flood,
+    flood: Flood,
     // For each position those whose rows were read before they were met, and which an edge links to
     // it. There are no lists before links are looked for that lead back.
-    pub(crate) back: Links,
+    back: Links,
     // How many positions were met and taken.
     followed: usize,
     // The rights that are asked for and that no position which was taken holds.
-    pub(crate) missing: Rights,
+    missing: Rights,
 }
 
 impl Spread {
-    pub(crate) fn from(
-        alloc: Global,
-        count: usize,
-        start: usize,
-        rights: Rights,
-    ) -> Result<Spread, AllocError>
+    fn from(alloc: Global, count: usize, start: usize, rights: Rights) -> Result<Spread, AllocError>
         requires { start < count }
         ensures { IfOk result (λ spread. BeginsAt count start rights spread) }
     {
@@ -84,7 +81,12 @@ impl Spread {
     }
 
     // The same, unless each position was met.
-    fn follow_on(&mut self, graph: &Graph, position: usize) -> Result<(), AllocError>
+    fn follow_on(
+        &mut self,
+        graph: &Graph,
+        position: usize,
+        work: &mut usize,
+    ) -> Result<(), AllocError>
         requires len { length self.old.flood.numbers.items ≡ length (keys_of graph.now) }
         requires within { (a : ℕ) → is_near self.old.back position a ≡ true
             → a < length (keys_of graph.now) }
@@ -92,6 +94,7 @@ impl Spread {
         ensures { OnOk result (FollowsOn graph.now position self.old self.new) }
     {
         if self.followed + self.flood.waiting.len() < graph.len() {
+            *work = work.saturating_add(graph.row_len(position));
             self.follow(graph, position)?;
         }
         Ok(())
@@ -99,7 +102,7 @@ impl Spread {
 
     // Takes up the last of the positions that wait, and goes on from it, unless no right is missing then.
     // It says whether it went on.
-    pub(crate) fn step(&mut self, graph: &Graph, asked: &Asked) -> Result<bool, AllocError>
+    fn step(&mut self, graph: &Graph, asked: &Asked, work: &mut usize) -> Result<bool, AllocError>
         requires graph { IsGraph graph.now }
         requires missing { IsMissing graph.now asked.now self.old.missing }
         requires spread { IsSpread graph.now asked.now self.old.missing
@@ -114,16 +117,17 @@ impl Spread {
             return Ok(false);
         };
         self.followed += 1;
+        *work = work.saturating_add(1);
         self.missing = self.missing.difference(graph.rights_at(position, asked.y));
         if self.missing.is_empty() {
             return Ok(false);
         }
-        self.follow_on(graph, position)?;
+        self.follow_on(graph, position, work)?;
         Ok(true)
     }
 
     // Goes on until no right is missing, or nothing is left to follow.
-    fn run(&mut self, graph: &Graph, asked: &Asked) -> Result<(), AllocError>
+    fn run(&mut self, graph: &Graph, asked: &Asked, work: &mut usize) -> Result<(), AllocError>
         requires graph { IsGraph graph.now }
         requires missing { IsMissing graph.now asked.now self.old.missing }
         requires spread { IsSpread graph.now asked.now self.old.missing
@@ -132,12 +136,18 @@ impl Spread {
         ensures end { OnOk result (IsTrue (is_empty_set self.new.missing)
             ⊎ RunsOut graph.now asked.now self.new.missing self.old self.new) }
     {
-        while self.step(graph, asked)? {}
+        while self.step(graph, asked, work)? {}
         Ok(())
     }
 
     // Goes on for so many steps, unless no right is missing or nothing is left to follow before.
-    fn run_for(&mut self, graph: &Graph, asked: &Asked, steps: usize) -> Result<(), AllocError>
+    fn run_for(
+        &mut self,
+        graph: &Graph,
+        asked: &Asked,
+        steps: usize,
+        work: &mut usize,
+    ) -> Result<(), AllocError>
         requires graph { IsGraph graph.now }
         requires missing { IsMissing graph.now asked.now self.old.missing }
         requires spread { IsSpread graph.now asked.now self.old.missing
@@ -147,7 +157,7 @@ impl Spread {
             ⊎ IsSpread graph.now asked.now self.new.missing self.new.flood.waiting.items self.new) }
     {
         for _ in 0..steps {
-            if !self.step(graph, asked)? {
+            if !self.step(graph, asked, work)? {
                 return Ok(());
             }
         }
@@ -177,23 +187,37 @@ impl Spread {
     }
 
     // Reads the row of a position that was not met. If an edge links it to one that was, it is met.
-    pub(crate) fn read_row(&mut self, graph: &Graph, position: usize) -> Result<(), AllocError>
+    fn read_row(
+        &mut self,
+        graph: &Graph,
+        position: usize,
+        work: &mut usize,
+    ) -> Result<(), AllocError>
         requires len { length self.old.flood.numbers.items ≡ length (keys_of graph.now) }
         requires back { length self.old.back ≡ length (keys_of graph.now) }
         requires within { position < length (keys_of graph.now) }
         ensures { OnOk result (Reads graph.now position self.old self.new) }
     {
-        for place in 0..graph.row_len(position) {
+        let edge_count = graph.row_len(position);
+        for place in 0..edge_count {
             if self.read_edge(graph, position, place)? {
+                *work = work.saturating_add(place);
                 self.flood.meet(position)?;
                 return Ok(());
             }
         }
+        *work = work.saturating_add(edge_count);
         Ok(())
     }
 
     // Reads the row of a position, if it was not met, and goes on from there.
-    fn visit(&mut self, graph: &Graph, asked: &Asked, position: usize) -> Result<(), AllocError>
+    fn visit(
+        &mut self,
+        graph: &Graph,
+        asked: &Asked,
+        position: usize,
+        work: &mut usize,
+    ) -> Result<(), AllocError>
         requires graph { IsGraph graph.now }
         requires missing { IsMissing graph.now asked.now self.old.missing }
         requires rest { IsAtRest graph.now asked.now self.old.missing position self.old }
@@ -205,13 +229,19 @@ impl Spread {
         if self.flood.numbers[position].is_some() {
             return Ok(());
         }
-        self.read_row(graph, position)?;
-        self.run(graph, asked)?;
+        self.read_row(graph, position, work)?;
+        self.run(graph, asked, work)?;
         Ok(())
     }
 
     // Finds the rights that no vertex of x's island holds.
-    fn search(&mut self, alloc: Global, graph: &Graph, asked: &Asked) -> Result<(), AllocError>
+    fn search(
+        &mut self,
+        alloc: Global,
+        graph: &Graph,
+        asked: &Asked,
+        work: &mut usize,
+    ) -> Result<(), AllocError>
         requires missing { IsMissing graph.now asked.now self.old.missing }
         requires spread { IsSpread graph.now asked.now self.old.missing
             self.old.flood.waiting.items self.old }
@@ -222,21 +252,27 @@ impl Spread {
     {
         let count = graph.len();
         self.back = Links::none(alloc, count)?;
-        self.run(graph, asked)?;
+        self.run(graph, asked, work)?;
         for position in 0..count {
             if self.missing.is_empty() {
                 return Ok(());
             }
-            self.visit(graph, asked, position)?;
+            self.visit(graph, asked, position, work)?;
         }
         Ok(())
     }
 }
 
-/// Whether some list of rules gives x each right of the set over y: whether x's island holds each.
+/// Whether some list of rules gives x each right of the set over y: whether x's island holds each. What the
+/// search looked at is added to its work.
 ///
 /// The one error is want of memory.
-pub fn island_holds(alloc: Global, graph: &Graph, asked: &Asked) -> Result<bool, AllocError>
+pub fn search_island(
+    alloc: Global,
+    graph: &Graph,
+    asked: &Asked,
+    work: &mut usize,
+) -> Result<bool, AllocError>
     requires named { IsNamed asked.now.rights }
     requires source { has_vertex (graph_of graph.now) asked.now.x ≡ true }
     requires target { has_vertex (graph_of graph.now) asked.now.y ≡ true }
@@ -252,15 +288,30 @@ pub fn island_holds(alloc: Global, graph: &Graph, asked: &Asked) -> Result<bool,
     match graph.position(asked.x) {
         Some(start) => {
             let mut spread = Spread::from(alloc, count, start, asked.rights)?;
-            spread.run_for(graph, asked, count / FIRST_STEPS)?;
+            spread.run_for(graph, asked, count / FIRST_STEPS, work)?;
             if !spread.missing.is_empty() {
                 if !are_held(graph, spread.missing, asked.y) {
+                    *work = work.saturating_add(count);
                     return Ok(false);
                 }
-                spread.search(alloc, graph, asked)?;
+                spread.search(alloc, graph, asked, work)?;
             }
             Ok(spread.missing.is_empty())
         }
         None => Ok(false),
     }
+}
+
+/// The same, where nobody asks for the work.
+pub fn island_holds(alloc: Global, graph: &Graph, asked: &Asked) -> Result<bool, AllocError>
+    requires named { IsNamed asked.now.rights }
+    requires source { has_vertex (graph_of graph.now) asked.now.x ≡ true }
+    requires target { has_vertex (graph_of graph.now) asked.now.y ≡ true }
+    ensures { IfOk result
+        (λ found. IsTrue found
+        ↔ CanShareAll (graph_of graph.now) asked.now.rights asked.now.x asked.now.y) }
+{
+    let mut work = 0;
+    let found = search_island(alloc, graph, asked, &mut work)?;
+    Ok(found)
 }

@@ -18,8 +18,8 @@ unreachable-requires-in_default-number_of c =
 pub unreachable-requires-in_default-position : goal.unreachable-requires-in_default-position
 unreachable-requires-in_default-position c = position-none (keys_of c.args.graph.now) c.args.y c.requires.target (sym c.position.ensures ∙ c.in_default-position.is)
 
-pub returns-in-Some-edges : goal.returns-in-Some-edges
-returns-in-Some-edges c =
+pub returns-in-Some-edges-clause-exact : goal.returns-in-Some-edges-clause-exact
+returns-in-Some-edges-clause-exact c =
     let g = c.args.graph.now in
     let index = subst (IsIndexOf g) (sym c.self.view_is) c.requires.index in
     let are = subst (λ o. IfSome o (AreIslands (graph_of g))) c.in-Some.is index.islands in
@@ -29,8 +29,8 @@ returns-in-Some-edges c =
     let exact = index-exact g c.len.ensures.graph c.len.ensures.well_formed c.shared_exactly.ensures few c.in-Some.islands are c.args.right from.0 c.in-Some-position.to c.args.x c.args.y (at-position (keys_of g) c.args.x from.0 from.1) (at-position (keys_of g) c.args.y c.in-Some-position.to (sym c.position.ensures ∙ c.in-Some-position.is)) c.in-Some-number_of.number from.2 c.in-Some-edges.edges listed in
     (λ yes. exact.0 (c.leads.ensures.0 yes), λ shared. c.leads.ensures.1 (exact.1 shared))
 
-pub returns-in-None : goal.returns-in-None
-returns-in-None c =
+pub returns-in-None-clause-exact : goal.returns-in-None-clause-exact
+returns-in-None-clause-exact c =
     let g = c.args.graph.now in
     let index = subst (IsIndexOf g) (sym c.self.view_is) c.requires.index in
     let are = subst (λ o. IfSome o (AreIslands (graph_of g))) c.in-Some.is index.islands in

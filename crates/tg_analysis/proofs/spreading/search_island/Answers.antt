@@ -10,8 +10,8 @@ use Rattle.tg_analysis.specs.Spreading.{IsMissing}
 use Rattle.tg_analysis.proofs.LookedUp.{island-held}
 use Rattle.tg_analysis.proofs.Rounds.{position-none}
 use Rattle.tg_analysis.proofs.Spreads.{spread-begins, all_held, then_none_missing, none_among}
-use Rattle.tg_analysis.proofs.spreading.island_holds.Goals as goal
-use Rattle.tg_analysis.proofs.spreading.island_holds.Goals.{then-not-is_empty+else-not-are_held+in_ok-search-in-Some, else-not-is_empty}
+use Rattle.tg_analysis.proofs.spreading.search_island.Goals as goal
+use Rattle.tg_analysis.proofs.spreading.search_island.Goals.{then-not-is_empty+else-not-are_held+in_ok-search-in-Some, else-not-is_empty}
 
 pub run_for-requires-clause-spread : goal.run_for-requires-clause-spread
 run_for-requires-clause-spread c = spread-begins c.args.graph.now c.len-count.ensures.graph c.args.asked.now c.in_ok-spread-in-Some.spread.missing c.args.asked.now.rights c.len-count.result c.in-Some.start c.in_ok-spread-in-Some.spread (c.len-count.ensures.value ∙ sym (length-keys_of c.args.graph.now)) (at-position (keys_of c.args.graph.now) c.args.asked.now.x c.in-Some.start (sym c.position.ensures ∙ c.in-Some.is)) c.in_ok-spread-in-Some.ensures
