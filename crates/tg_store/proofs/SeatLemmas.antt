@@ -1,5 +1,5 @@
 -- What the calls of a seat keep.
-use Rattle.std.proofs.Common.{◌≡◌, Option, None, IfSome, ◌+◌, ◌++◌, List, [], ◌∷◌, length, take, drop, Some, All, refl, sym, ap, subst, ◌∙◌, arith, bytes_eq}
+use Rattle.std.proofs.Common.{◌≡◌, Option, None, IfSome, ◌+◌, ◌++◌, List, [], ◌∷◌, length, take, drop, false, Some, All, refl, sym, ap, subst, ◌∙◌, arith, bytes_eq}
 use Rattle.std.specs.Prelude.{slice_get}
 use Rattle.std.specs.Option.{option_map}
 use Rattle.std.proofs.lemmas.List.{length-append, take-append-le, take_all, take-append-drop}
@@ -22,7 +22,7 @@ use Rattle.tg_store.specs.Touches.{IsClear, step_writes}
 use Rattle.tg_store.specs.Drafted.{drafted, GainsRows, IsDraftOf}
 use Rattle.tg_store.specs.declared.knowing.Known.{Known}
 use Rattle.tg_store.specs.declared.knowing.Known.TheVariants.{OfBase, OfWhole}
-use Rattle.tg_store.specs.Knowing.{IsKnown, forgotten}
+use Rattle.tg_store.specs.Knowing.{IsKnown, knows_any, forgotten}
 use Rattle.tg_store.specs.Seats.{IsSessionOn, Rests}
 use Rattle.tg_store.proofs.Ordered.{after_steps-push, AreAnswers-push, replay-append, replay-next, replay-push}
 use Rattle.tg_store.proofs.Commuting.{rows-more, draft-clear, answers-clear}
@@ -47,9 +47,14 @@ session-push base o p a on e drawn told named known = record {
 }
 
 -- what is still known where the base is another
-known-on : (base next : Entries) (draft : Changes) (known : Known) → IsKnown base draft known → IsKnown next draft (forgotten known)
+pub known-on : (base next : Entries) (draft : Changes) (known : Known) → IsKnown base draft known → IsKnown next draft (forgotten known)
 known-on base next draft (OfBase index) is = (is.0, record { islands = tt; listed = tt })
 known-on base next draft (OfWhole whole) is = tt
+
+-- nothing that is still known then takes memory
+pub forgotten-none : (known : Known) → knows_any (forgotten known) ≡ false
+forgotten-none (OfBase index) = refl
+forgotten-none (OfWhole whole) = refl
 
 -- to forget twice is to forget once
 forgotten-twice : (known : Known) → forgotten known ≡ forgotten (forgotten known)

@@ -1,8 +1,8 @@
 -- What a session knows of the graph that it asks.
-use Rattle.std.specs.Prelude.{◌≡◌, [], Bool, true, false, Some, None, IfSome}
+use Rattle.std.specs.Prelude.{◌≡◌, [], Bool, Some, None, is_some, IfSome}
 use Rattle.tg_graph.specs.Rows.{Entries}
 use Rattle.tg_graph.specs.Drafts.{Changes, laid_over}
-use Rattle.tg_analysis.specs.ByTarget.{IsIndexOf, unasked}
+use Rattle.tg_analysis.specs.ByTarget.{IsIndexOf, has_found, unasked}
 use Rattle.tg_store.specs.declared.knowing.Whole.{Whole}
 use Rattle.tg_store.specs.declared.knowing.Known.{Known}
 use Rattle.tg_store.specs.declared.knowing.Known.TheVariants.{OfBase, OfWhole}
@@ -17,11 +17,10 @@ abbrev pub IsKnown : Entries → Changes → Known → Type 0
 IsKnown base draft (OfBase index) = (draft ≡ ([], [])) × IsIndexOf base index
 IsKnown base draft (OfWhole whole) = IfSome whole (Knows base draft)
 
--- the graph that the draft stands for is known
-abbrev pub has_whole : Known → Bool
-has_whole (OfWhole (Some _)) = true
-has_whole (OfWhole None) = false
-has_whole (OfBase _) = false
+-- something is known that takes memory
+abbrev pub knows_any : Known → Bool
+knows_any (OfBase index) = has_found index
+knows_any (OfWhole whole) = is_some whole
 
 -- what is still known where the base is another: whether the draft changes nothing
 abbrev pub forgotten : Known → Known

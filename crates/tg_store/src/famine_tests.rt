@@ -3,9 +3,9 @@
 // else everything is answered.
 use crate::events::{HallFault, HallReply};
 use crate::halls::Hall;
-use crate::scripts::Deed::{Abort, Begin, Learn, PutOnce, Take};
+use crate::scripts::Deed::{Abort, Begin, Learn, PutOnce, Remove, Share, Take};
 use crate::scripts::Word::{
-    AlreadyOpen, Changed, Did, Done, JournalFull, NoSeat, NotOpen, Nothing, Put,
+    AlreadyOpen, Changed, Did, Done, JournalFull, No, NoSeat, NotOpen, Nothing, Put,
 };
 use crate::scripts::{Row, event_of, reply_of};
 use crate::test_helpers::{acts, events, hall_of_three};
@@ -94,6 +94,22 @@ fn halls_read(rt: HostRuntime) -> Result<(), Fail> {
         read_graph(&rt, &hall);
         acts(&rt, &mut hall, &[(1, Begin, Done)]);
         events(&rt, &mut hall, &[(1, PutOnce, JournalFull)]);
+    }
+    Ok(())
+}
+
+// A row that the session has changed is changed again where it stands, also when the session asked what its
+// graph shares in between.
+#[test]
+fn a_rule_after_a_question(rt: HostRuntime) -> Result<(), Fail> {
+    let mut hall = hall_of_three(&rt, rt.alloc(), 4, 1)?;
+    let rows = [
+        (1, Begin, Done),
+        (1, Take(*b"abc", b"r"), Did),
+        (1, Share(Right::W, *b"ac"), No),
+    ];
+    if is_set_up(&rt, &mut hall, &rows) {
+        events(&rt, &mut hall, &[(1, Remove(*b"ac", b"r"), Did)]);
     }
     Ok(())
 }

@@ -1,12 +1,11 @@
 //! What a session knows of the graph that it asks.
 ghost use Rattle.std.specs.Prelude.{◌≡◌, IfOk, IfSome, None};
 ghost use Rattle.tg_graph.specs.GraphOf.{graph_of};
-ghost use Rattle.tg_graph.specs.Rows.{Entries};
-ghost use Rattle.tg_graph.specs.Drafts.{Changes, Fits};
+ghost use Rattle.tg_graph.specs.Drafts.{Fits};
 ghost use Rattle.tg_analysis.specs.ByTarget.{IsIndexOf, unasked};
 ghost use Rattle.tg_store.specs.Answers.{IsAnswer, unknown_of_two};
 ghost use Rattle.tg_store.specs.Drafted.{drafted};
-ghost use Rattle.tg_store.specs.Knowing.{Knows, IsKnown, has_whole, forgotten};
+ghost use Rattle.tg_store.specs.Knowing.{Knows, IsKnown, knows_any, forgotten};
 
 use std::alloc::{AllocError, Global};
 use tg_analysis::{AskFault, SharingIndex};
@@ -67,7 +66,8 @@ fn whole_of(whole: Option<Whole>, base: &Graph, draft: &Draft) -> Result<Whole, 
     })
 }
 
-// Answers for a draft. The graph that it stands for is made where it is not known.
+// Answers for a draft. The graph that it stands for is made where it is not known, and given up where memory
+// is refused.
 fn reply_on_whole(
     whole: &mut Option<Whole>,
     alloc: Global,
@@ -85,9 +85,9 @@ fn reply_on_whole(
     ensures whole { IfSome whole.new (Knows base.now draft.now) }
 {
     let mut made = whole_of(whole.take(), base, draft)?;
-    let reply = reply_by(&mut made.index, alloc, &made.graph, right, x, y);
+    let reply = reply_by(&mut made.index, alloc, &made.graph, right, x, y)?;
     *whole = Some(made);
-    reply
+    Ok(reply)
 }
 
 impl Known {
@@ -122,13 +122,14 @@ impl Known {
         }
     }
 
-    /// Whether the graph that the draft stands for is known.
-    pub fn has_whole(&self) -> bool
-        ensures { result ≡ has_whole self.now }
+    /// Whether something is known that takes memory: what was found of the base, or the graph that the draft
+    /// stands for.
+    pub fn knows_any(&self) -> bool
+        ensures { result ≡ knows_any self.now }
     {
         match self {
-            Known::OfBase(_) | Known::OfWhole(None) => false,
-            Known::OfWhole(Some(_)) => true,
+            Known::OfBase(index) => index.has_found(),
+            Known::OfWhole(whole) => whole.is_some(),
         }
     }
 
@@ -139,17 +140,17 @@ impl Known {
         *self = Known::OfWhole(None);
     }
 
-    /// Gives up the graph that the draft stands for, and its index.
-    pub fn give_up_whole(&mut self)
-        ensures { (base : Entries) → (draft : Changes) → IsKnown base draft self.old → IsKnown base draft
-            self.new }
+    /// Gives up what takes memory.
+    pub fn give_up(&mut self)
+        ensures { self.new ≡ forgotten self.old }
     {
-        if let Known::OfWhole(whole) = self {
-            *whole = None;
+        match self {
+            Known::OfBase(index) => *index = SharingIndex::new(),
+            Known::OfWhole(whole) => *whole = None,
         }
     }
 
-    /// What is still known where the base is another.
+    /// What is still known where the base is another: whether the draft changes nothing.
     pub fn forgotten(self) -> Known
         ensures { result ≡ forgotten self }
     {

@@ -3,7 +3,7 @@
 use crate::events::{HallFault, HallReply, StoreFault};
 use crate::halls::Hall;
 use crate::scripts::Deed::{Begin, Commit, Create, Learn, PutOnce, Share};
-use crate::scripts::Word::{Did, Done, Learned, Put, Yes};
+use crate::scripts::Word::{Did, Done, Learned, No, Put, Yes};
 use crate::scripts::{Row, act_of, event_of, name, reply_of};
 use crate::test_helpers::has;
 use std::alloc::{AllocError, Global};
@@ -128,6 +128,29 @@ fn refused_events(rt: HostRuntime) {
     happen(&rt, &mut hall, &rows);
     assert!(rt; hall.len() == 1);
     assert!(rt; hall.taken(2) == Some(1));
+}
+
+// What a session asks before its first rule, and after each. It finds islands and lists edges in between.
+#[test]
+fn refused_questions(rt: HostRuntime) {
+    let mut hall = opened(&rt, rt.alloc());
+    let rows = [
+        (1, Begin, Done),
+        (1, Share(Right::W, *b"aa"), No),
+        (1, Share(Right::R, *b"aa"), No),
+        (1, Create(*b"ab", b"tr"), Did),
+        (1, Share(Right::W, *b"ab"), No),
+        (1, Share(Right::R, *b"bb"), Yes),
+        (1, Share(Right::E, *b"ba"), No),
+        (1, Share(Right::R, *b"bb"), Yes),
+        (1, Create(*b"bc", b"r"), Did),
+        (1, Share(Right::R, *b"ac"), Yes),
+        (1, Share(Right::W, *b"ac"), No),
+        (1, PutOnce, Put(0)),
+        (2, Learn, Learned(0)),
+    ];
+    happen(&rt, &mut hall, &rows);
+    ends(&rt, &hall, 3, b'b', b'c');
 }
 
 // A record is taken in under an open session, which goes on from where it was.

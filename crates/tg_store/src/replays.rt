@@ -1,5 +1,5 @@
 //! Steps on a draft over a graph.
-ghost use Rattle.std.specs.Prelude.{◌≡◌, All, IfOk, OnOk, OnErr, is_some, Some, None, if◌then◌else◌};
+ghost use Rattle.std.specs.Prelude.{◌≡◌, All, IfOk, OnOk, OnErr, is_some, is_none, Some, None, false, if◌then◌else◌};
 ghost use Rattle.tg_graph.specs.Sets.{IsNamed};
 ghost use Rattle.tg_graph.specs.Rules.{rights_of};
 ghost use Rattle.tg_graph.specs.GraphOf.{graph_of};
@@ -10,7 +10,7 @@ ghost use Rattle.tg_store.specs.Answers.{lack_of_room, session_refusal, IsAnswer
 ghost use Rattle.tg_store.specs.Touches.{step_writes};
 ghost use Rattle.tg_store.specs.Trails.{LeadsBy, vertices_at};
 ghost use Rattle.tg_store.specs.Drafted.{drafted, GainsRows, IsDraftOf};
-ghost use Rattle.tg_store.specs.Knowing.{IsKnown};
+ghost use Rattle.tg_store.specs.Knowing.{IsKnown, knows_any};
 
 use crate::answers::Answered;
 use crate::knowing::Known;
@@ -125,20 +125,31 @@ fn answer_share(
     known.reply(alloc, base, draft, right, x, y)
 }
 
-// Gives up the graph that the draft stands for, if it is known, before a rule is carried out: no row of the
-// draft has another owner when the rule changes it.
+// Whether the rule is carried out.
+fn is_accepted(base: &Graph, draft: &Draft, rule: &Rule) -> bool
+    requires fits { Fits base.now draft.now }
+    requires named { IsNamed (rights_of rule.now) }
+    ensures { result ≡ is_none (session_refusal (drafted base.now draft.now) rule.now) }
+{
+    draft.check(base, rule).is_ok() && !lacks_room(base, draft, rule)
+}
+
+// Gives up what is known of the draft before a rule is carried out: no row has another owner when the rule
+// changes it, and no memory is kept from it.
 fn make_way(base: &Graph, draft: &Draft, known: &mut Known, rule: &Rule)
     requires fits { Fits base.now draft.now }
     requires named { IsNamed (rights_of rule.now) }
     requires known { IsKnown base.now draft.now known.old }
-    ensures { IsKnown base.now draft.now known.new }
+    ensures known { IsKnown base.now draft.now known.new }
+    ensures way { session_refusal (drafted base.now draft.now) rule.now ≡ None → knows_any known.new ≡ false }
 {
-    if known.has_whole() && draft.check(base, rule).is_ok() {
-        known.give_up_whole();
+    if known.knows_any() && is_accepted(base, draft, rule) {
+        known.give_up();
     }
 }
 
-// Carries out a rule. What was known of the draft is no longer known where it changes it.
+// Carries out a rule, for which way was made. What was known of the draft is no longer known where the rule
+// changes it.
 fn carry_out_known(
     base: &Graph,
     draft: &mut Draft,
@@ -148,6 +159,7 @@ fn carry_out_known(
     requires fits { Fits base.now draft.old }
     requires named { IsNamed (rights_of rule.now) }
     requires known { IsKnown base.now draft.old known.old }
+    requires way { session_refusal (drafted base.now draft.old) rule.now ≡ None → knows_any known.old ≡ false }
     ensures reply { IfOk result
         (λ reply. IsAnswer (drafted base.now draft.old) (Step.Do rule.now) reply) }
     ensures after { OnOk result
@@ -159,7 +171,6 @@ fn carry_out_known(
     ensures fits { Fits base.now draft.new }
     ensures known { IsKnown base.now draft.new known.new }
 {
-    make_way(base, draft, known, rule);
     let reply = carry_out(base, draft, rule)?;
     if let Reply::Done = reply {
         known.forget();
@@ -188,7 +199,10 @@ pub fn answer(
     ensures known { IsKnown base.now draft.new known.new }
 {
     match *step {
-        Step::Do(rule) => carry_out_known(base, draft, known, &rule),
+        Step::Do(rule) => {
+            make_way(base, draft, known, &rule);
+            carry_out_known(base, draft, known, &rule)
+        }
         Step::Holds { right, x, y } => Ok(answer_holds(base, draft, right, x, y)),
         Step::Share { right, x, y } => answer_share(alloc, base, draft, known, right, x, y),
     }

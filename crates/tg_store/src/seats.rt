@@ -299,8 +299,8 @@ impl SeatState {
     {
         // no vertex stands twice in the graph: this `len` says
         let _ = self.graph.len();
-        let draft = replays::with_steps(&self.graph, committed)?;
         self.session = unknowing(self.session.take());
+        let draft = replays::with_steps(&self.graph, committed)?;
         replays::merge(&mut self.graph, draft)?;
         Ok(())
     }
