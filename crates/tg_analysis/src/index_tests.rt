@@ -59,7 +59,7 @@ fn assert_kept_agrees(rt: &impl Abort, alloc: Global, graph: &Graph, right: Righ
 #[test]
 fn an_index_that_is_kept_says_the_same(rt: HostRuntime) -> Result<(), Fail> {
     // the first question finds near a what it asks for; once questions have looked at 13 rows and edges, the
-    // next one finds the islands, and once they have looked at 7 rows more, the next one lists the edges
+    // next one finds the islands, and once they have looked at 13 rows more, the next one lists the edges
     let g = graph(
         &rt,
         rt.alloc(),
@@ -69,6 +69,25 @@ fn an_index_that_is_kept_says_the_same(rt: HostRuntime) -> Result<(), Fail> {
     for right in &Right::ALL {
         assert_kept_agrees(&rt, rt.alloc(), &g, *right);
     }
+    Ok(())
+}
+
+// Four rows and edges are half of what there is: a search that looks at each row pays for the islands, and two
+// questions that look at two rows each pay for the list.
+#[test]
+fn an_index_finds_what_was_paid_for(rt: HostRuntime) -> Result<(), Fail> {
+    let g = graph(&rt, rt.alloc(), "a b c d", "a b t, c a r, c b r, c d r");
+    let (a, d) = (name(&rt, "a"), name(&rt, "d"));
+    let mut index = SharingIndex::new();
+    assert!(rt; index.can_share(rt.alloc(), &g, Right::W, a, d) == Ok(false));
+    assert!(rt; !index.has_found());
+    assert!(rt; index.can_share(rt.alloc(), &g, Right::W, a, d) == Ok(false));
+    assert!(rt; index.has_found());
+    assert!(rt; index.can_share(rt.alloc(), &g, Right::W, a, d) == Ok(false));
+    assert!(rt; !index.has_listed());
+    assert!(rt; index.can_share(rt.alloc(), &g, Right::R, a, d) == Ok(false));
+    assert!(rt; index.has_listed());
+    assert!(rt; index.can_share(rt.alloc(), &g, Right::T, a, name(&rt, "b")) == Ok(true));
     Ok(())
 }
 

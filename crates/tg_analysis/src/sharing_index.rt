@@ -1,5 +1,5 @@
 //! An index of a graph, for many questions about sharing.
-ghost use Rattle.std.specs.Prelude.{◌≡◌, ◌↔◌, true, false, None, IsSome, IsTrue, IfOk, IfErr, OnOk};
+ghost use Rattle.std.specs.Prelude.{◌≡◌, ◌↔◌, true, false, None, is_some, IsSome, IsTrue, IfOk, IfErr, OnOk};
 ghost use Rattle.tg_graph.specs.GraphOf.{graph_of};
 ghost use Rattle.tg_graph.specs.Graphs.{has_vertex};
 ghost use Rattle.tg_graph.specs.RuleLists.{CanShare};
@@ -17,30 +17,27 @@ use std::alloc::{AllocError, Global};
 use std::marker::Model;
 use tg_graph::{Graph, Name, Right, Rights};
 
-// The islands are found once searches have done half as much work as that takes.
-const SEARCHES: usize = 2;
+// What was found for all questions is paid for once half as much work was done without it as it takes.
+const SHARE: usize = 2;
 
-// To begin a search takes at least as long as to look at so small a part of the vertices.
-const BEGINNING: usize = 64;
-
-// The edges are listed once half as many rows were looked at, which takes about as long.
-const LOOKS_A_LIST: usize = 2;
+// A pass over a number for each vertex takes at least as long as to look at so small a part of their rows.
+const PASS: usize = 64;
 
 /// What is known of a graph from the questions about sharing that it was asked: first nothing, then its
 /// islands, and last its edges by their targets.
 ///
 /// A question searches x's island, as `can_share` does. Once searches have looked at half as many rows and
 /// edges as there are, the next question finds the islands, in one pass over the edges, which takes some 70
-/// bytes a vertex and leaves 8; a question then costs a look at each row of an island. Once half as many rows
-/// were looked at as there are edges, the next question lists the edges, which takes 16 bytes an edge and 4 a
-/// vertex; a question then costs the edges to one vertex. So the calls before have paid for each of the two.
-/// Where memory is refused for them, questions are answered as before, and they are due again as late as the
-/// first time.
+/// bytes a vertex and leaves 8; a question then looks at each row of an island. Once it has looked at half as
+/// many rows as there are rows and edges, the next question lists the edges, which takes 16 bytes an edge and 4
+/// a vertex; a question then goes through the edges to one vertex. So the questions before have paid for each of
+/// the two. Where memory for them is refused, questions are answered as before, and they are due again as late
+/// as the first time.
 #[derive(Drop)]
 pub struct SharingIndex {
     islands: Option<Islands>,
     edges: Option<EdgesByTarget>,
-    // How many edges there are, once a question was asked; how much work searches have done, and how many rows
+    // How many edges there are, once they were counted; how much work searches have done, and how many rows
     // were looked at since. They decide no answer.
     edge_count: Option<usize>,
     work: usize,
@@ -55,8 +52,8 @@ impl Model for SharingIndex {
     ghost view = { λ t. record { numbers = t.islands; listed = t.edges } };
 }
 
-// Whether a vertex of the island with the number holds the right over y. How many positions it came to is
-// added to the looks.
+// Whether a vertex of the island with the number holds the right over y. The rows that it looks at are added to
+// the looks.
 fn holds_in(
     graph: &Graph,
     islands: &Islands,
@@ -70,14 +67,14 @@ fn holds_in(
 {
     let likely = graph.likely_number(y);
     for position in 0..graph.len() {
-        if islands.of(position) == Some(number)
-            && graph.rights_near(position, y, likely).has(right)
-        {
-            *looks = looks.saturating_add(position);
-            return true;
+        if islands.of(position) == Some(number) {
+            *looks = looks.saturating_add(1);
+            if graph.rights_near(position, y, likely).has(right) {
+                return true;
+            }
         }
     }
-    *looks = looks.saturating_add(graph.len());
+    *looks = looks.saturating_add(graph.len() / PASS);
     false
 }
 
@@ -102,7 +99,15 @@ impl SharingIndex {
         self.islands.is_some() || self.edges.is_some()
     }
 
-    // How many edges there are. The first question counts them.
+    /// Whether it has listed the edges.
+    #[cfg(test)]
+    pub(crate) fn has_listed(&self) -> bool
+        ensures { result ≡ is_some self.now.listed }
+    {
+        self.edges.is_some()
+    }
+
+    // How many edges there are, which are counted once.
     fn edge_count(&mut self, graph: &Graph) -> usize
         ensures { self.new ≡ self.old }
     {
@@ -114,6 +119,17 @@ impl SharingIndex {
                 count
             }
         }
+    }
+
+    // Whether so much work pays for what takes a pass over rows and edges. The edges are counted only where it may.
+    fn is_paid(&mut self, graph: &Graph, work: usize) -> bool
+        ensures { self.new ≡ self.old }
+    {
+        if work < graph.len() / SHARE {
+            return false;
+        }
+        let size = graph.len().saturating_add(self.edge_count(graph));
+        work >= size / SHARE
     }
 
     // Searches x's island for a holder of the right over y: whether some list of rules gives it x.
@@ -132,7 +148,7 @@ impl SharingIndex {
         ensures same { self.new ≡ self.old }
     {
         let rights = Rights::of(right);
-        let mut work = graph.len() / BEGINNING;
+        let mut work = graph.len() / PASS;
         let answer = search_island(alloc, graph, &Asked { rights, x, y }, &mut work)?;
         self.work = self.work.saturating_add(work);
         Ok(answer)
@@ -143,8 +159,7 @@ impl SharingIndex {
         requires { IsIndexOf graph.now self.old }
         ensures { IsIndexOf graph.now self.new }
     {
-        let size = graph.len().saturating_add(self.edge_count(graph));
-        if self.work < size / SEARCHES || self.islands.is_some() {
+        if self.islands.is_some() || !self.is_paid(graph, self.work) {
             return;
         }
         match joining::islands(alloc, graph) {
@@ -159,10 +174,10 @@ impl SharingIndex {
         ensures index { IsIndexOf graph.now self.new }
         ensures islands { self.new.numbers ≡ self.old.numbers }
     {
-        let count = self.edge_count(graph);
-        if self.looks < count / LOOKS_A_LIST || self.edges.is_some() {
+        if self.edges.is_some() || !self.is_paid(graph, self.looks) {
             return;
         }
+        let count = self.edge_count(graph);
         match EdgesByTarget::of(alloc, graph, count) {
             Ok(edges) => self.edges = Some(edges),
             Err(AllocError) => self.looks = 0,

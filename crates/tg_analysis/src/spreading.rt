@@ -1,6 +1,7 @@
 //! The flood from one vertex that looks for holders of rights.
 //!
-//! It counts its work: each row that it looks at for y, and each edge that it reads. The count decides no answer.
+//! It counts its work, so that others know what was paid: no more than the rows that it looks at for y, and the
+//! edges that it reads. The count decides no answer.
 ghost use Rattle.std.specs.Prelude.{◌≡◌, ◌↔◌, ◌<◌, ◌+◌, ◌∷◌, [], ℕ, true, IsTrue, IfOk, OnOk, MatchBool, ◌⊎◌, length};
 ghost use Rattle.std.specs.Map.{keys_of};
 ghost use Rattle.tg_graph.specs.declared.right_sets.Right.{Right};
@@ -263,8 +264,8 @@ impl Spread {
     }
 }
 
-/// Whether some list of rules gives x each right of the set over y: whether x's island holds each. What the
-/// search looked at is added to its work.
+/// Whether some list of rules gives x each right of the set over y: whether x's island holds each. To the work
+/// is added what the search did, where it came to its end.
 ///
 /// The one error is want of memory.
 pub fn search_island(
@@ -302,7 +303,9 @@ pub fn search_island(
     }
 }
 
-/// The same, where nobody asks for the work.
+/// Whether some list of rules gives x each right of the set over y: whether x's island holds each.
+///
+/// The one error is want of memory.
 pub fn island_holds(alloc: Global, graph: &Graph, asked: &Asked) -> Result<bool, AllocError>
     requires named { IsNamed asked.now.rights }
     requires source { has_vertex (graph_of graph.now) asked.now.x ≡ true }
