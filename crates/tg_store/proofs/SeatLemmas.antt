@@ -74,10 +74,13 @@ session-clear base committed theirs o le on clear distinct unknown = record {
 abbrev pub unknowing : OpenSession → OpenSession
 unknowing o = record { draft = o.draft; kept = o.kept; known = forgotten o.known }
 
+pub unknowing-on : (base : Entries) (o : OpenSession) → IsSessionOn base o → IsSessionOn base (unknowing o)
+unknowing-on base o on = record { drawn = on.drawn; answers = on.answers; named = on.named; known = known-on base base o.draft o.known on.known }
+
 -- the same, where it forgets the rest from then on
 pub unknowing-clear : (base : Entries) (committed : List Answered) (theirs : Changes) (o : OpenSession) → IsDraftOf base committed theirs → IsSessionOn base o → IsClear (graph_of base) committed (Some o.kept.items) → IsDistinct bytes_eq (keys_of base) → IsSessionOn (laid_over base theirs) (unknowing o)
 unknowing-clear base committed theirs o le on clear distinct =
-    session-clear base committed theirs (unknowing o) le (record { drawn = on.drawn; answers = on.answers; named = on.named; known = known-on base base o.draft o.known on.known }) clear distinct (forgotten-twice o.known)
+    session-clear base committed theirs (unknowing o) le (unknowing-on base o on) clear distinct (forgotten-twice o.known)
 
 pub seat-clear : (base : Entries) (committed : List Answered) (theirs : Changes) (session : Option OpenSession) → IsDraftOf base committed theirs → IfSome session (IsSessionOn base)
     → IsClear (graph_of base) committed (option_map (λ (o : OpenSession). o.kept.items) session) → IsDistinct bytes_eq (keys_of base) → IfSome session (λ (o : OpenSession). o.known ≡ forgotten o.known) → IfSome session (IsSessionOn (laid_over base theirs))

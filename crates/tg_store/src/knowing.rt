@@ -1,5 +1,5 @@
 //! What a session knows of the graph that it asks.
-ghost use Rattle.std.specs.Prelude.{◌≡◌, IfOk, IfSome, None};
+ghost use Rattle.std.specs.Prelude.{◌≡◌, IfOk, OnErr, IfSome, None};
 ghost use Rattle.tg_graph.specs.GraphOf.{graph_of};
 ghost use Rattle.tg_graph.specs.Drafts.{Fits};
 ghost use Rattle.tg_analysis.specs.ByTarget.{IsIndexOf, unasked};
@@ -83,6 +83,7 @@ fn reply_on_whole(
     ensures reply { IfOk result
         (λ reply. IsAnswer (drafted base.now draft.now) (Step.Share right x y) reply) }
     ensures whole { IfSome whole.new (Knows base.now draft.now) }
+    ensures err { OnErr result (whole.new ≡ None) }
 {
     let mut made = whole_of(whole.take(), base, draft)?;
     let reply = reply_by(&mut made.index, alloc, &made.graph, right, x, y)?;

@@ -136,9 +136,13 @@ fn refused_questions(rt: HostRuntime) {
     let mut hall = opened(&rt, rt.alloc());
     let rows = [
         (1, Begin, Done),
-        (1, Share(Right::W, *b"aa"), No),
-        (1, Share(Right::R, *b"aa"), No),
         (1, Create(*b"ab", b"tr"), Did),
+        (1, PutOnce, Put(0)),
+        (1, Begin, Done),
+        (1, Share(Right::W, *b"ab"), No),
+        (1, Share(Right::E, *b"ab"), No),
+        (1, Share(Right::W, *b"ba"), No),
+        (1, Create(*b"ad", b"g"), Did),
         (1, Share(Right::W, *b"ab"), No),
         (1, Share(Right::R, *b"bb"), Yes),
         (1, Share(Right::E, *b"ba"), No),
@@ -146,11 +150,12 @@ fn refused_questions(rt: HostRuntime) {
         (1, Create(*b"bc", b"r"), Did),
         (1, Share(Right::R, *b"ac"), Yes),
         (1, Share(Right::W, *b"ac"), No),
-        (1, PutOnce, Put(0)),
+        (1, PutOnce, Put(1)),
         (2, Learn, Learned(0)),
+        (2, Learn, Learned(1)),
     ];
     happen(&rt, &mut hall, &rows);
-    ends(&rt, &hall, 3, b'b', b'c');
+    ends(&rt, &hall, 4, b'b', b'c');
 }
 
 // A record is taken in under an open session, which goes on from where it was.

@@ -87,6 +87,15 @@ impl Session {
         seat
     }
 
+    // The same session, which knows nothing that takes memory.
+    fn unknowing(self) -> Session
+        ensures { result ≡ self }
+    {
+        let Session { seat, staged } = self;
+        let staged = staged.unknowing();
+        Session { seat, staged }
+    }
+
     // What the next record that its seat has seen is to the session.
     fn weigh(&self, journal: &Journal<Record>) -> Result<Weighed, AllocError>
         requires cells { self.now.seat.pass.cells ≡ journal.now }
@@ -211,7 +220,8 @@ impl Session {
         requires { self.seat.pass.cells ≡ journal.now }
         ensures { CommitSays self result }
     {
-        let mut session = self;
+        // what it knows stands in the way of no request that is made from here on
+        let mut session = self.unknowing();
         loop {
             match session.attempt(journal) {
                 Attempt::Over(committed) => return committed,

@@ -96,7 +96,8 @@ impl OpenSession {
 
     /// The same session, which knows what is still known where the base is another.
     pub(crate) fn unknowing(self) -> OpenSession
-        ensures { result ≡ record { draft = self.draft; kept = self.kept; known = forgotten self.known } }
+        ensures value { result ≡ record { draft = self.draft; kept = self.kept; known = forgotten self.known } }
+        ensures on { (base : Entries) → IsSessionOn base self → IsSessionOn base result }
     {
         let OpenSession { draft, kept, known } = self;
         OpenSession {
@@ -106,7 +107,8 @@ impl OpenSession {
         }
     }
 
-    // Answers a step, and keeps it with its reply. An error changes no step.
+    // Answers a step, and keeps it with its reply. An error changes no step; where there is no room for the step,
+    // what is known is given up, so that it does not stand in the way of the next try.
     pub(crate) fn stage(&mut self, base: &Graph, step: &Step) -> Result<Reply, AllocError>
         requires on { IsSessionOn base.now self.old }
         requires named { IsNamedStep step.now }
@@ -119,7 +121,10 @@ impl OpenSession {
         ensures err { OnErr result (self.new.kept.items ≡ self.old.kept.items) }
         ensures on { IsSessionOn base.now self.new }
     {
-        self.kept.reserve(1)?;
+        if self.kept.reserve(1).is_err() {
+            self.known.give_up();
+            return Err(AllocError);
+        }
         let alloc = *self.kept.allocator();
         let outcome = replays::answer(alloc, base, &mut self.draft, &mut self.known, step);
         // `created` says that it is a draft
@@ -299,8 +304,8 @@ impl SeatState {
     {
         // no vertex stands twice in the graph: this `len` says
         let _ = self.graph.len();
-        self.session = unknowing(self.session.take());
         let draft = replays::with_steps(&self.graph, committed)?;
+        self.session = unknowing(self.session.take());
         replays::merge(&mut self.graph, draft)?;
         Ok(())
     }
@@ -418,6 +423,8 @@ impl SeatState {
         ensures counted { self.new.commits ≡ count_of number records.new.items }
     {
         let Ok(positions) = self.make_room(records, trail) else {
+            // what the session knows does not stand in the way of the next try
+            self.session = unknowing(self.session.take());
             return HallReply::Refused(HallFault::Memory);
         };
         let place = records.len();

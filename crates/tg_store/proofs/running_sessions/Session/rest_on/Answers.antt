@@ -27,7 +27,7 @@ invariant_of-result c =
     let s = c.self.inside.seat in
     let apart = subst (λ rows. IsDistinct bytes_eq (keys_of rows)) c.graph.ensures.value c.len.ensures.graph.apart in
     subst (λ rows. IsSessionOn rows c.unknowing-staged.result) (sym c.in-Ok.ensures.graph)
-    (subst (IsSessionOn (laid_over s.graph c.args.draft)) (sym c.unknowing-staged.ensures)
+    (subst (IsSessionOn (laid_over s.graph c.args.draft)) (sym c.unknowing-staged.ensures.value)
     (unknowing-clear s.graph n.0.steps c.args.draft c.self.inside.staged n.2.1 c.self.invariant n.2.0 apart))
 
 pub returns-in-Ok : goal.returns-in-Ok
@@ -39,6 +39,6 @@ returns-in-Ok c =
     let apart = subst (λ rows. IsDistinct bytes_eq (keys_of rows)) c.graph.ensures.value c.len.ensures.graph.apart in
     let on = subst (λ rows. IsSessionOn rows (unknowing o)) (sym c.in-Ok.ensures.graph) (unknowing-clear s.graph n.0.steps c.args.draft o n.2.1 c.self.invariant n.2.0 apart) in
     let further = rested s u o.kept.items n.0 c.taken.ensures.seat n.1 n.2.0 c.take_in.ensures.pass.0 c.take_in.ensures.pass.1 c.in-Ok.ensures.taken c.take_in.ensures.seat on.answers in
-    let same = ap (λ (o : OpenSession). o.kept.items) c.unknowing-staged.ensures in
+    let same = ap (λ (o : OpenSession). o.kept.items) c.unknowing-staged.ensures.value in
     subst (λ s. AttemptSays s (Further (record { seat = u; steps = c.unknowing-staged.result.kept.items }))) c.self.view_is
     (subst (λ steps. AttemptSays (record { seat = s; steps = o.kept.items }) (Further (record { seat = u; steps = steps }))) (sym same) further)

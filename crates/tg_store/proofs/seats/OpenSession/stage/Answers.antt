@@ -14,7 +14,7 @@ returns-in-Ok-clause-on c =
     let now = c.answer-outcome.new.draft in
     let a : Answered = record { step = step; reply = c.in-Ok.reply } in
     session-push base old (record { draft = now; kept = c.keep.new.kept; known = c.answer-outcome.new.known }) a c.requires.on
-    (c.keep.ensures ∙ ap (λ xs. xs ++ a ∷ []) c.in_ok-reserve.ensures.items)
+    (c.keep.ensures ∙ ap (λ xs. xs ++ a ∷ []) c.reserve.ensures.items)
     (draft-push base old.kept.items old.draft now a c.requires.on.drawn c.created.ensures.draft c.answer-outcome.ensures.fits
     (subst (λ r. OnOk r (drafted base now ≡ after_step (drafted base old.draft) step)) c.in-Ok.is c.answer-outcome.ensures.after)
     (subst (λ r. OnOk r (GainsRows old.draft (step_writes (drafted base old.draft) step) now)) c.in-Ok.is c.answer-outcome.ensures.rows))
