@@ -27,7 +27,7 @@ abbrev pub IsUp : Edges → Type 0
 IsUp row = IsStrictlySortedBy name_cmp (keys_of row)
 
 -- names that one is below are other names
-apart_from_less : (x y : List ℕ) → name_cmp x y ≡ Less → bytes_eq y x ≡ false
+pub apart_from_less : (x y : List ℕ) → name_cmp x y ≡ Less → bytes_eq y x ≡ false
 apart_from_less x y e = symm y x ∙ texts_ties x y ∙ ap is_eq e
 
 apart_from_greater : (x y : List ℕ) → name_cmp x y ≡ Greater → bytes_eq y x ≡ false

@@ -1,20 +1,24 @@
 -- Names that rise with their numbers, so that numbers alone tell where an edge goes.
-use Rattle.std.proofs.Common.{◌≡◌, ℕ, zero, suc, ◌+◌, ◌-◌, ◌<◌, ◌≤◌, List, [], ◌∷◌, length, get_or, slice_get, Option, Some, None, Result, Ok, Err, IfSome, IfErr, sym, ap, subst, ◌∙◌, arith}
+use Rattle.std.proofs.Common.{◌≡◌, ◌≢◌, ℕ, zero, suc, ◌+◌, ◌-◌, ◌<◌, ◌≤◌, false, cond, List, [], ◌∷◌, length, get_or, slice_get, Option, Some, None, Result, Ok, Err, IfSome, IfErr, MatchOption, unwrap_or, bytes_eq, refl, sym, ap, subst, ◌∙◌, arith, ⊎_elim}
 use Rattle.std.specs.Ordering.{is_lt, is_gt, ordering_reverse}
 use Rattle.std.specs.declared.cmp.Ordering.TheVariants.{Less, Greater}
 use Rattle.std.specs.Cmp.Lexicographic.{nat_list_cmp_total}
 use Rattle.std.specs.List.Sorted.{IsStrictlySortedBy}
+use Rattle.std.specs.Map.{lookup}
 use Rattle.std.specs.Option.{option_map}
+use Rattle.std.proofs.lemmas.Bool.{cases_lt}
 use Rattle.std.proofs.lemmas.List.{length-map}
 use Rattle.std.proofs.lemmas.Map.Keys.{sorted_from_all_adjacent}
 use Rattle.std.proofs.lemmas.Option.{slice_get_within, get_or_from_slice_get, slice_get-get_or, slice_get-map}
 use Rattle.tg_graph.specs.declared.right_sets.Rights.{Rights}
 use Rattle.tg_graph.specs.declared.listed_edges.Edge.{Edge}
 use Rattle.tg_graph.specs.Graphs.{Name}
-use Rattle.tg_graph.specs.Rows.{IsGapFor}
-use Rattle.tg_graph.specs.EdgeLists.{number_of, named, edges_of, AreWithin, IsNumberGap}
-use Rattle.tg_graph.proofs.EdgeLists.{each-at}
-use Rattle.tg_graph.proofs.Places.{name_cmp, IsUp, below_from_last, above_from_first}
+use Rattle.tg_graph.specs.Rows.{IsGapFor, IsPlaceOf, label_in}
+use Rattle.tg_graph.specs.Sets.{nothing}
+use Rattle.tg_graph.specs.EdgeLists.{number_of, label_on, named, edges_of, AreWithin, HasLabel, NoneHas, IsNumberGap}
+use Rattle.tg_graph.proofs.EdgeLists.{each-at, named-is}
+use Rattle.tg_graph.proofs.Places.{name_cmp, IsUp, apart_from_less, lookup-place, below_from_last, above_from_first}
+use Rattle.tg_graph.proofs.Rows.{symm}
 
 -- each name is below the next
 pub rising : (ks : List Name) → ((k : ℕ) → k + 1 < length ks → name_cmp (get_or ks k []) (get_or ks (k + 1) []) ≡ Less) → IsStrictlySortedBy name_cmp ks
@@ -75,3 +79,30 @@ module _ (names : List Name) (up : IsStrictlySortedBy name_cmp names) (es : List
   number_gaps None h = tt
   number_gaps (Some (Ok place)) h = tt
   number_gaps (Some (Err place)) h = number_gap place h
+
+-- ---- few edges, gone through one by one
+module _ (names : List Name) (up : IsStrictlySortedBy name_cmp names) (v : Name) (n : ℕ) (at : slice_get names n ≡ Some v) where
+  name_is : get_or names n [] ≡ v
+  name_is = get_or_from_slice_get names n v [] at
+
+  other_name : (m : ℕ) → m < length names → m ≢ n → bytes_eq v (get_or names m []) ≡ false
+  other_name m within apart = ⊎_elim
+      (λ low. apart_from_less (get_or names m []) v (ap (name_cmp (get_or names m [])) (sym name_is) ∙ rises_far names m n up low (slice_get_within names n v at)))
+      (λ high. symm v (get_or names m []) ∙ apart_from_less v (get_or names m []) (ap (λ (w : Name). name_cmp w (get_or names m [])) (sym name_is) ∙ rises_far names n m up (above high) within))
+      (cases_lt m n)
+    where
+      above : n ≤ m → n < m
+      above high = ⊎_elim (λ more. more) (λ same. absurd (apart (omega (arith, high, same)))) (cases_lt n m)
+
+  no_edge : (es : List Edge) → AreWithin names es → NoneHas es n → lookup (bytes_eq v) (edges_of names es) ≡ None
+  no_edge [] w h = refl
+  no_edge (e ∷ es) w h = ap (λ b. cond b (Some (label_on e)) (lookup (bytes_eq v) (edges_of names es))) (other_name (number_of e) w.0 h.0) ∙ no_edge es w.1 h.1
+
+  pub label_told : (es : List Edge) → AreWithin names es → IsUp (edges_of names es) → (found : Option Rights) → MatchOption found (NoneHas es n) (HasLabel es n) → unwrap_or found nothing ≡ label_in (edges_of names es) v
+  label_told es w sorted None h = sym (ap (λ (o : Option Rights). unwrap_or o nothing) (no_edge es w h))
+  label_told es w sorted (Some label) h =
+      let row = edges_of names es in
+      let there : slice_get row h.0 ≡ Some (v, label) = slice_get-map (named names) es h.0 ∙ ap (option_map (named names)) h.2 ∙ ap Some (named-is names h.1 v label n at h.3 h.4) in
+      let is : (d : Name × Rights) → get_or row h.0 d ≡ (v, label) = λ d. get_or_from_slice_get row h.0 (v, label) d there in
+      let place : IsPlaceOf row v h.0 = record { in_range = slice_get_within row h.0 (v, label) there; target = λ d. ap (λ (edge : Name × Rights). edge.0) (is d) } in
+      sym (ap (λ (o : Option Rights). unwrap_or o nothing) (lookup-place row v h.0 (v, label) sorted place ∙ ap (λ (edge : Name × Rights). Some edge.1) (is (v, label))))

@@ -1,5 +1,5 @@
 -- Edges whose targets are numbers of names.
-use Rattle.std.specs.Prelude.{◌≡◌, ℕ, ◌<◌, ◌≤◌, ◌-◌, ◌/◌, ◌%◌, Some, length, slice_get, slice_index_or, List, [], ◌++◌, map, unwrap_or}
+use Rattle.std.specs.Prelude.{◌≡◌, ◌≢◌, ℕ, ◌<◌, ◌≤◌, ◌-◌, ◌/◌, ◌%◌, Some, length, slice_get, slice_index_or, List, [], ◌++◌, map, unwrap_or}
 use Rattle.std.specs.List.{AllByRecursion}
 use Rattle.tg_graph.specs.declared.right_sets.Rights.{Rights}
 use Rattle.tg_graph.specs.declared.targets.Targets.{Targets}
@@ -36,6 +36,14 @@ AreNumbered names others edges = AllByRecursion (λ edge. (number_of edge < leng
 -- the edge at the place has the number
 abbrev pub HasNumber : List Edge → ℕ → ℕ → Type 0
 HasNumber edges number place = (edge : Edge) × (slice_get edges place ≡ Some edge) × (number_of edge ≡ number)
+
+-- no edge has the number
+abbrev pub NoneHas : List Edge → ℕ → Type 0
+NoneHas edges number = AllByRecursion (λ edge. number_of edge ≢ number) edges
+
+-- some edge has the number and the label
+abbrev pub HasLabel : List Edge → ℕ → Rights → Type 0
+HasLabel edges number label = (place : ℕ) × (edge : Edge) × (slice_get edges place ≡ Some edge) × (number_of edge ≡ number) × (label_on edge ≡ label)
 
 -- the edge in front of the place, if there is one, has a lesser number
 abbrev pub IsAbove : List Edge → ℕ → ℕ → Type 0

@@ -6,7 +6,7 @@ ghost use Rattle.std.specs.Cmp.Lexicographic.{slice_cmp};
 ghost use Rattle.std.specs.List.Sorted.{IsStrictlySortedBy};
 ghost use Rattle.std.specs.Map.{keys_of};
 ghost use Rattle.tg_graph.specs.declared.right_sets.Rights.{Rights};
-ghost use Rattle.tg_graph.specs.Rows.{IsPlaceOf, IsGapFor};
+ghost use Rattle.tg_graph.specs.Rows.{IsPlaceOf, IsGapFor, label_in};
 
 use crate::edges_to_all::EdgesToAll;
 use crate::listed_edges::ListedEdges;
@@ -103,6 +103,14 @@ impl EdgeList {
         }
     }
 
+    /// The number that a vertex's name mostly has, where numbers alone tell its edge. It decides no answer.
+    pub fn likely_number(&self, target: Name) -> Option<usize> {
+        match &self.form {
+            Form::Listed(edges) => edges.likely_number(target),
+            Form::ToAll(_) => None,
+        }
+    }
+
     /// Where the edge to a vertex, whose name may have this number, is, or would go, where numbers of
     /// names alone tell it.
     #[inline(always)]
@@ -117,6 +125,19 @@ impl EdgeList {
     {
         match &self.form {
             Form::Listed(edges) => edges.place_by_number(target, likely),
+            Form::ToAll(_) => None,
+        }
+    }
+
+    /// The label of the edge to a vertex, no rights where there is none, where there are few edges and the
+    /// number is that of the vertex's name, so that numbers alone tell it.
+    #[inline(always)]
+    pub fn label_in_few(&self, target: Name, number: Option<usize>) -> Option<Rights>
+        requires { IsStrictlySortedBy (slice_cmp nat_cmp) (keys_of self.now) }
+        ensures { IfSome result (λ label. label ≡ label_in self.now target) }
+    {
+        match &self.form {
+            Form::Listed(edges) => edges.label_in_few(target, number),
             Form::ToAll(_) => None,
         }
     }

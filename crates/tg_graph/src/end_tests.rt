@@ -4,6 +4,7 @@ use crate::names::Name;
 use crate::protection::Graph;
 use crate::right_sets::{Right, Rights};
 use crate::test_values::set;
+use bitflags::Flags;
 use std::alloc::Global;
 use std::process::Abort;
 use std::test::Fail;
@@ -45,6 +46,25 @@ fn by_name(g: &Graph, position: usize, place: usize) -> Option<(usize, Rights)> 
 fn agrees(rt: &impl Abort, g: &Graph, position: usize, place: usize) {
     let said = g.end_at(position, place, Wanted::All);
     assert!(rt; said == by_name(g, position, place));
+}
+
+// Edges out of the second vertex to so many others, all with shared names.
+fn plain(rt: &impl Abort, alloc: Global, count: u32) -> Graph {
+    let mut g = Graph::new(alloc);
+    add_vertices(rt, &mut g, 0, COUNT);
+    for target in 0..count {
+        add(rt, &mut g, 1, target, b"r");
+    }
+    g
+}
+
+// Whether the rights over a vertex are found at the row of the second, by the number that its name mostly
+// has, by another and by none.
+fn finds_rights(rt: &impl Abort, g: &Graph, target: u32, rights: Rights) {
+    let name = Name::helper(target);
+    assert!(rt; g.rights_near(1, name, g.likely_number(name)) == rights);
+    assert!(rt; g.rights_near(1, name, Some(3)) == rights);
+    assert!(rt; g.rights_at(1, name) == rights);
 }
 
 #[test]

@@ -1,13 +1,13 @@
 //! The edges out of one vertex: four bytes for an edge whose target's name is shared.
-ghost use Rattle.std.specs.Prelude.{◌≡◌, ◌<◌, ◌≤◌, ◌+◌, [], ◌∷◌, ◌++◌, if◌then◌else◌, true, Some, IfOk, IfErr, IfSome, OnOk, OnErr, is_ok, length, slice_get, slice_index_or, slice_set};
+ghost use Rattle.std.specs.Prelude.{◌≡◌, ◌<◌, ◌≤◌, ◌+◌, [], ◌∷◌, ◌++◌, if◌then◌else◌, true, Some, IfOk, IfErr, IfSome, OnOk, OnErr, MatchOption, is_ok, length, slice_get, slice_index_or, slice_set};
 ghost use Rattle.std.specs.List.{insert, remove};
 ghost use Rattle.tg_graph.specs.declared.right_sets.Rights.{Rights};
-ghost use Rattle.tg_graph.specs.EdgeLists.{names_of, edges_of, AreWithin, AreNumbered, HasNumber, IsAbove, IsNumberGap};
+ghost use Rattle.tg_graph.specs.EdgeLists.{names_of, edges_of, AreWithin, AreNumbered, HasNumber, HasLabel, NoneHas, IsAbove, IsNumberGap};
 ghost use Rattle.std.specs.Ordering.{nat_cmp};
 ghost use Rattle.std.specs.Cmp.Lexicographic.{slice_cmp};
 ghost use Rattle.std.specs.List.Sorted.{IsStrictlySortedBy};
 ghost use Rattle.std.specs.Map.{keys_of};
-ghost use Rattle.tg_graph.specs.Rows.{IsPlaceOf, IsGapFor};
+ghost use Rattle.tg_graph.specs.Rows.{IsPlaceOf, IsGapFor, label_in};
 ghost use Rattle.tg_graph.specs.Sets.{IsNamed};
 
 use crate::names::Name;
@@ -23,6 +23,9 @@ const MOST_NUMBERS: usize = 16_777_216;
 
 // So many edges are counted, and of more a half is left out first.
 const FEW_EDGES: usize = 64;
+
+// So few edges are gone through one by one.
+const ONE_BY_ONE: usize = 8;
 
 // How many names of their own a list's edges may leave behind before they are gathered anew.
 const SPARE_NAMES: usize = 8;
@@ -55,13 +58,17 @@ impl Edge {
         }
     }
 
-    fn number(self) -> usize
+    /// The number of the target.
+    #[inline(always)]
+    pub fn number(self) -> usize
         ensures { result ≡ number_of self }
     {
         (self.bits / 256) as usize
     }
 
-    fn label(self) -> Rights
+    /// The rights.
+    #[inline(always)]
+    pub fn label(self) -> Rights
         ensures { result ≡ label_on self }
     {
         Rights::from_bits_retain((self.bits % 256) as u8)
@@ -128,6 +135,18 @@ fn place_of_number(edges: &[Edge], number: usize) -> Option<Result<usize, usize>
     } else {
         None
     }
+}
+
+// The label of the first edge with a number. The edges are gone through one by one.
+fn label_with_number(edges: &[Edge], number: usize) -> Option<Rights>
+    ensures { MatchOption result (NoneHas edges.now number) (HasLabel edges.now number) }
+{
+    for edge in edges {
+        if edge.number() == number {
+            return Some(edge.label());
+        }
+    }
+    None
 }
 
 // Puts an edge in at a place. Those behind it are moved all at once.
@@ -257,6 +276,11 @@ impl ListedEdges {
         Some(count_in_order(self.edges.as_slice(), number))
     }
 
+    /// The number that a vertex's name mostly has, where numbers alone tell its edge. It decides no answer.
+    pub fn likely_number(&self, target: Name) -> Option<usize> {
+        self.targets.rising()?.likely_number(target)
+    }
+
     /// Where the edge to a vertex is, or would go, where numbers alone tell it: no name but that of the
     /// vertex is looked at, which may have this number.
     #[inline(always)]
@@ -271,6 +295,21 @@ impl ListedEdges {
     {
         let number = self.targets.rising_number(target, likely)?;
         place_of_number(self.edges.as_slice(), number)
+    }
+
+    /// The label of the edge to a vertex, no rights where there is none, where there are few edges and the
+    /// number is that of the vertex's name, so that numbers alone tell it.
+    #[inline(always)]
+    pub fn label_in_few(&self, target: Name, number: Option<usize>) -> Option<Rights>
+        requires { IsStrictlySortedBy (slice_cmp nat_cmp) (keys_of self.now) }
+        ensures { IfSome result (λ label. label ≡ label_in self.now target) }
+    {
+        if self.edges.len() > ONE_BY_ONE {
+            return None;
+        }
+        let number = self.targets.rising_at(number, target)?;
+        let label = label_with_number(self.edges.as_slice(), number);
+        Some(label.unwrap_or(Rights::empty()))
     }
 
     /// The position that the target of the edge at a place mostly has. It decides no answer.

@@ -1,5 +1,5 @@
 //! The edges out of one vertex.
-ghost use Rattle.std.specs.Prelude.{◌≡◌, true, Some, None, ◌+◌, ◌<◌, ◌≤◌, [], IfOk, IfErr, OnOk, OnErr, bytes_eq, length, slice_get, MatchBool};
+ghost use Rattle.std.specs.Prelude.{◌≡◌, true, Some, None, ◌+◌, ◌<◌, ◌≤◌, [], IfOk, IfErr, IfSome, OnOk, OnErr, bytes_eq, length, slice_get, MatchBool};
 ghost use Rattle.std.specs.Map.{lookup};
 ghost use Rattle.tg_graph.specs.Sets.{IsNamed};
 ghost use Rattle.tg_graph.specs.Rows.{label_in, IsLabel, IsRow, Puts, Adds, TakesAway, IsPlaceOf, IsGapFor, AreBelow, AreAbove};
@@ -266,14 +266,27 @@ impl Row {
         self.edges.label(place)
     }
 
-    /// The label of the edge to a vertex, whose name may have this number among those that rows share.
-    pub fn label_near(&self, y: Name, likely: Option<usize>) -> Rights
-        ensures value { result ≡ label_in self.now y }
-        ensures named { IsNamed result }
+    // The label of the edge to a vertex, found by its place.
+    #[inline(never)]
+    fn label_by_place(&self, y: Name, likely: Option<usize>) -> Rights
+        ensures { result ≡ label_in self.now y }
     {
         match self.place_near(y, likely) {
             Ok(place) => self.label_at(place, y),
             Err(_place) => Rights::empty(),
+        }
+    }
+
+    /// The label of the edge to a vertex, whose name may have this number among those that rows share. Of
+    /// few edges it is found without a place.
+    #[inline(always)]
+    pub fn label_near(&self, y: Name, likely: Option<usize>) -> Rights
+        ensures value { result ≡ label_in self.now y }
+        ensures named { IsNamed result }
+    {
+        match self.edges.label_in_few(y, likely) {
+            Some(label) => label,
+            None => self.label_by_place(y, likely),
         }
     }
 
@@ -282,7 +295,7 @@ impl Row {
         ensures value { result ≡ label_in self.now y }
         ensures named { IsNamed result }
     {
-        self.label_near(y, None)
+        self.label_near(y, self.edges.likely_number(y))
     }
 
     // Writes the label of the edge to y, which is at the place.

@@ -256,8 +256,9 @@ impl SharedNames {
         self.table.names.binary_search(&name).ok()
     }
 
-    // The number, if it is that of the name.
-    fn confirmed(&self, number: Option<usize>, name: Name) -> Option<usize>
+    /// The number, if it is that of the name.
+    #[inline(always)]
+    pub fn confirmed(&self, number: Option<usize>, name: Name) -> Option<usize>
         ensures { IfSome result (λ number. slice_get self.now number ≡ Some name) }
     {
         let number = number?;

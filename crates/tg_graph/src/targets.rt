@@ -57,6 +57,28 @@ impl Targets {
         self.shared.as_ref()
     }
 
+    /// The shared names, where there are no others.
+    #[inline(always)]
+    pub fn shared_alone(&self) -> Option<&SharedNames>
+        ensures { IfSome result (λ names. names.now ≡ names_of self.now) }
+    {
+        if !self.own.is_empty() {
+            return None;
+        }
+        self.shared.as_ref()
+    }
+
+    /// The shared names, where there are no others and they rise with their numbers.
+    #[inline(always)]
+    pub fn rising(&self) -> Option<&SharedNames>
+        ensures names { IfSome result (λ names. names.now ≡ names_of self.now) }
+        ensures rise { IfSome result
+            (λ names. IsStrictlySortedBy (slice_cmp nat_cmp) (names_of self.now)) }
+    {
+        let names = self.shared_alone()?;
+        if names.rise() { Some(names) } else { None }
+    }
+
     /// The number of a name, where all names are shared and rise with their numbers, and the number is
     /// this one or is found at once.
     #[inline(always)]
@@ -66,11 +88,20 @@ impl Targets {
         ensures rise { IfSome result
             (λ number. IsStrictlySortedBy (slice_cmp nat_cmp) (names_of self.now)) }
     {
-        let names = self.shared.as_ref()?;
-        if !self.own.is_empty() || !names.rise() {
-            return None;
-        }
+        let names = self.rising()?;
         names.found_near(name, likely)
+    }
+
+    /// The number, where it is that of the name, all names are shared, and they rise with their numbers.
+    #[inline(always)]
+    pub fn rising_at(&self, number: Option<usize>, name: Name) -> Option<usize>
+        ensures number { IfSome result
+            (λ number. slice_get (names_of self.now) number ≡ Some name) }
+        ensures rise { IfSome result
+            (λ number. IsStrictlySortedBy (slice_cmp nat_cmp) (names_of self.now)) }
+    {
+        let names = self.rising()?;
+        names.confirmed(number, name)
     }
 
     /// How many names are this row's alone.
