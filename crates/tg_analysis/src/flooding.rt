@@ -1,5 +1,5 @@
 //! The positions that a flood has met.
-ghost use Rattle.std.specs.Prelude.{◌≡◌, ◌<◌, [], ◌∷◌, IfOk, OnOk, true, length, replicate, None, ℕ};
+ghost use Rattle.std.specs.Prelude.{◌≡◌, ◌<◌, [], ◌∷◌, IfOk, IfSome, OnOk, true, length, replicate, None, ℕ};
 ghost use Rattle.std.specs.Map.{keys_of};
 ghost use Rattle.tg_graph.specs.Rows.{row_number};
 ghost use Rattle.tg_analysis.specs.Linked.{neighbours, is_near};
@@ -7,7 +7,7 @@ ghost use Rattle.tg_analysis.specs.Flooding.{Meets, MeetsEnd, MeetsEnds};
 
 use crate::links::{Links, linked_end};
 use std::alloc::{AllocError, Global};
-use tg_graph::Graph;
+use tg_graph::{Graph, OpenRow};
 
 /// A flood that gives numbers to the positions that it meets.
 #[derive(Drop)]
@@ -65,11 +65,18 @@ impl Flood {
     }
 
     // Meets the end of an edge, if its label has take or grant.
-    fn meet_end(&mut self, graph: &Graph, position: usize, place: usize) -> Result<(), AllocError>
-        requires { length self.old.numbers.items ≡ length (keys_of graph.now) }
+    fn meet_end(
+        &mut self,
+        graph: &Graph,
+        opened: &Option<OpenRow<'_>>,
+        position: usize,
+        place: usize,
+    ) -> Result<(), AllocError>
+        requires opened { IfSome opened.now (λ row. row ≡ row_number graph.now position) }
+        requires len { length self.old.numbers.items ≡ length (keys_of graph.now) }
         ensures { OnOk result (MeetsEnd graph.now position place self.old self.new) }
     {
-        if let Some(end) = linked_end(graph, position, place) {
+        if let Some(end) = linked_end(graph, opened, position, place) {
             self.meet(end)?;
         }
         Ok(())
@@ -83,8 +90,9 @@ impl Flood {
         ensures { OnOk result
             (MeetsEnds graph.now position (length (row_number graph.now position)) self.old self.new) }
     {
+        let opened = graph.open_row(position);
         for place in 0..graph.row_len(position) {
-            self.meet_end(graph, position, place)?;
+            self.meet_end(graph, &opened, position, place)?;
         }
         Ok(())
     }

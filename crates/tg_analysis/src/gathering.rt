@@ -1,5 +1,5 @@
 //! Gathering what islands hold, from the edges.
-ghost use Rattle.std.specs.Prelude.{◌≡◌, ◌≤◌, IfOk, OnOk, length};
+ghost use Rattle.std.specs.Prelude.{◌≡◌, ◌≤◌, IfOk, IfSome, OnOk, length};
 ghost use Rattle.tg_graph.specs.Limits.{most_vertices};
 ghost use Rattle.tg_graph.specs.Rows.{row_number};
 ghost use Rattle.tg_analysis.specs.Numbering.{AreCounted};
@@ -8,13 +8,20 @@ ghost use Rattle.tg_analysis.specs.Gathered.{target_of, TakesEdge, TakesEdges, G
 use crate::holdings::Holdings;
 use crate::numbering::Islands;
 use std::alloc::{AllocError, Global};
-use tg_graph::{Graph, Right, Wanted};
+use tg_graph::{Graph, OpenRow, Right, Wanted};
 
 // The position of the target of an edge, if its label has the right.
-fn target_of(graph: &Graph, right: Right, position: usize, place: usize) -> Option<usize>
+fn target_of(
+    graph: &Graph,
+    opened: &Option<OpenRow<'_>>,
+    right: Right,
+    position: usize,
+    place: usize,
+) -> Option<usize>
+    requires { IfSome opened.now (λ row. row ≡ row_number graph.now position) }
     ensures { result ≡ target_of graph.now right position place }
 {
-    let (target, _) = graph.end_at(position, place, Wanted::With(right))?;
+    let (target, _) = graph.end_in(opened, position, place, Wanted::With(right))?;
     Some(target)
 }
 
@@ -22,16 +29,18 @@ fn target_of(graph: &Graph, right: Right, position: usize, place: usize) -> Opti
 fn add_edge(
     held: &mut Holdings,
     graph: &Graph,
+    opened: &Option<OpenRow<'_>>,
     islands: &Islands,
     right: Right,
     position: usize,
     place: usize,
 ) -> Result<(), AllocError>
+    requires opened { IfSome opened.now (λ row. row ≡ row_number graph.now position) }
     requires small { length graph.now ≤ most_vertices }
     requires counted { AreCounted islands.now (length held.old) }
     ensures { OnOk result (TakesEdge graph.now islands.now right position place held.old held.new) }
 {
-    let Some(target) = target_of(graph, right, position, place) else {
+    let Some(target) = target_of(graph, opened, right, position, place) else {
         return Ok(());
     };
     let Some(number) = islands.of(position) else {
@@ -55,8 +64,9 @@ fn add_row(
         (TakesEdges graph.now islands.now right position
         (length (row_number graph.now position)) held.old held.new) }
 {
+    let opened = graph.open_row(position);
     for place in 0..graph.row_len(position) {
-        add_edge(held, graph, islands, right, position, place)?;
+        add_edge(held, graph, &opened, islands, right, position, place)?;
     }
     Ok(())
 }

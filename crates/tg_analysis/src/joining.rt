@@ -1,8 +1,8 @@
 //! The islands of a graph: the sets of vertices that links join.
-ghost use Rattle.std.specs.Prelude.{◌≡◌, ◌<◌, ◌+◌, ℕ, IfOk, OnOk, length};
+ghost use Rattle.std.specs.Prelude.{◌≡◌, ◌<◌, ◌+◌, ℕ, IfOk, IfSome, OnOk, length};
 ghost use Rattle.std.specs.Map.{keys_of};
 ghost use Rattle.tg_graph.specs.GraphOf.{graph_of};
-ghost use Rattle.tg_graph.specs.Rows.{IsGraph};
+ghost use Rattle.tg_graph.specs.Rows.{IsGraph, row_number};
 ghost use Rattle.tg_analysis.specs.Numbering.{AreIslands};
 ghost use Rattle.tg_analysis.specs.DisjointSets.{set_of, StayTogether};
 ghost use Rattle.tg_analysis.specs.JoinedSets.{JoinedUpTo, NumbersUpTo, NumberSets};
@@ -11,22 +11,24 @@ use crate::disjoint_sets::DisjointSets;
 use crate::links::linked_end;
 use crate::numbering::Islands;
 use std::alloc::{AllocError, Global};
-use tg_graph::Graph;
+use tg_graph::{Graph, OpenRow};
 
 // Joins the sets of the ends of an edge, if its label has take or grant.
 fn join_edge(
     sets: &mut DisjointSets,
     graph: &Graph,
+    opened: &Option<OpenRow<'_>>,
     position: usize,
     place: usize,
 ) -> Result<(), AllocError>
+    requires opened { IfSome opened.now (λ row. row ≡ row_number graph.now position) }
     requires graph { IsGraph graph.now }
     requires within { position < length (keys_of graph.now) }
     requires so_far { JoinedUpTo graph.now sets.old position place }
     ensures joined { OnOk result (JoinedUpTo graph.now sets.new position (place + 1)) }
     ensures together { OnOk result (StayTogether sets.old.sets.items sets.new.sets.items) }
 {
-    if let Some(end) = linked_end(graph, position, place) {
+    if let Some(end) = linked_end(graph, opened, position, place) {
         sets.join(position, end)?;
     }
     Ok(())
@@ -40,8 +42,9 @@ fn join_row(sets: &mut DisjointSets, graph: &Graph, position: usize) -> Result<(
     ensures joined { OnOk result (JoinedUpTo graph.now sets.new (position + 1) 0) }
     ensures together { OnOk result (StayTogether sets.old.sets.items sets.new.sets.items) }
 {
+    let opened = graph.open_row(position);
     for place in 0..graph.row_len(position) {
-        join_edge(sets, graph, position, place)?;
+        join_edge(sets, graph, &opened, position, place)?;
     }
     Ok(())
 }

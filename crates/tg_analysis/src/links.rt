@@ -1,13 +1,14 @@
 //! Which vertices of a graph are linked.
-ghost use Rattle.std.specs.Prelude.{◌≡◌, ◌<◌, ◌+◌, ◌++◌, ◌∷◌, [], IfOk, OnOk, length, replicate};
+ghost use Rattle.std.specs.Prelude.{◌≡◌, ◌<◌, ◌+◌, ◌++◌, ◌∷◌, [], IfOk, IfSome, OnOk, length, replicate};
 ghost use Rattle.std.specs.Map.{keys_of};
 ghost use Rattle.tg_graph.specs.GraphOf.{graph_of};
+ghost use Rattle.tg_graph.specs.Rows.{row_number};
 ghost use Rattle.tg_analysis.specs.Linked.{neighbours, linked_end, AreLinks, AddsNeighbour, JoinsNeighbours, LinksUpTo};
 
 use crate::positions::Positions;
 use std::alloc::{AllocError, Global};
 use std::marker::Model;
-use tg_graph::{Graph, Wanted};
+use tg_graph::{Graph, OpenRow, Wanted};
 
 /// For each vertex of a graph, by position, the positions of the vertices that are linked to it.
 ///
@@ -25,11 +26,19 @@ impl Model for Links {
     ghost view = { λ l. l.near.items };
 }
 
-/// The position at the other end of an edge, if its label has take or grant.
-pub fn linked_end(graph: &Graph, position: usize, place: usize) -> Option<usize>
+/// The position at the other end of an edge, if its label has take or grant. The edge's row may be laid
+/// open.
+#[inline(always)]
+pub fn linked_end(
+    graph: &Graph,
+    opened: &Option<OpenRow<'_>>,
+    position: usize,
+    place: usize,
+) -> Option<usize>
+    requires { IfSome opened.now (λ row. row ≡ row_number graph.now position) }
     ensures { result ≡ linked_end graph.now position place }
 {
-    let (end, _) = graph.end_at(position, place, Wanted::Links)?;
+    let (end, _) = graph.end_in(opened, position, place, Wanted::Links)?;
     Some(end)
 }
 
@@ -101,12 +110,19 @@ impl Links {
     }
 
     // Joins the ends of an edge, if its label has take or grant.
-    fn add_edge(&mut self, graph: &Graph, position: usize, place: usize) -> Result<(), AllocError>
+    fn add_edge(
+        &mut self,
+        graph: &Graph,
+        opened: &Option<OpenRow<'_>>,
+        position: usize,
+        place: usize,
+    ) -> Result<(), AllocError>
+        requires opened { IfSome opened.now (λ row. row ≡ row_number graph.now position) }
         requires within { position < length (keys_of graph.now) }
         requires so_far { LinksUpTo graph.now self.old position place }
         ensures { OnOk result (LinksUpTo graph.now self.new position (place + 1)) }
     {
-        if let Some(end) = linked_end(graph, position, place) {
+        if let Some(end) = linked_end(graph, opened, position, place) {
             self.join(position, end)?;
         }
         Ok(())
@@ -118,8 +134,9 @@ impl Links {
         requires so_far { LinksUpTo graph.now self.old position 0 }
         ensures { OnOk result (LinksUpTo graph.now self.new (position + 1) 0) }
     {
+        let opened = graph.open_row(position);
         for place in 0..graph.row_len(position) {
-            self.add_edge(graph, position, place)?;
+            self.add_edge(graph, &opened, position, place)?;
         }
         Ok(())
     }

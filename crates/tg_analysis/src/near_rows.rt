@@ -23,8 +23,9 @@ fn ties(label: Rights) -> bool
 fn add_ends(graph: &Graph, near: &mut Positions, position: usize) -> Result<(), AllocError>
     ensures { OnOk result (Join (IsEnd graph.now position) near.old near.new) }
 {
+    let opened = graph.open_row(position);
     for place in 0..graph.row_len(position) {
-        if let Some(end) = linked_end(graph, position, place) {
+        if let Some(end) = linked_end(graph, &opened, position, place) {
             near.add(end)?;
         }
     }

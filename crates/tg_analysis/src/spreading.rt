@@ -8,7 +8,7 @@ ghost use Rattle.tg_graph.specs.declared.right_sets.Right.{Right};
 ghost use Rattle.tg_graph.specs.Sets.{member, is_empty_set, IsNamed};
 ghost use Rattle.tg_graph.specs.Graphs.{has_vertex};
 ghost use Rattle.tg_graph.specs.GraphOf.{graph_of};
-ghost use Rattle.tg_graph.specs.Rows.{IsGraph};
+ghost use Rattle.tg_graph.specs.Rows.{IsGraph, row_number};
 ghost use Rattle.tg_graph.specs.RuleLists.{CanShareAll};
 ghost use Rattle.tg_analysis.specs.Sharing.{HeldInIsland};
 ghost use Rattle.tg_analysis.specs.Linked.{is_near};
@@ -21,7 +21,7 @@ use crate::laws;
 use crate::links::{Links, linked_end};
 use bitflags::Flags;
 use std::alloc::{AllocError, Global};
-use tg_graph::{Graph, Name, Rights};
+use tg_graph::{Graph, Name, OpenRow, Rights};
 
 // Before all rows are looked at for a holder, an eighth as many positions are taken up: what is answered
 // near x needs no more.
@@ -170,14 +170,16 @@ impl Spread {
     fn read_edge(
         &mut self,
         graph: &Graph,
+        opened: &Option<OpenRow<'_>>,
         position: usize,
         place: usize,
     ) -> Result<bool, AllocError>
+        requires opened { IfSome opened.now (λ row. row ≡ row_number graph.now position) }
         requires len { length self.old.flood.numbers.items ≡ length (keys_of graph.now) }
         requires back { length self.old.back ≡ length (keys_of graph.now) }
         ensures { IfOk result (λ met. ReadsEdge graph.now position place met self.old self.new) }
     {
-        match linked_end(graph, position, place) {
+        match linked_end(graph, opened, position, place) {
             Some(end) if self.flood.numbers[end].is_some() => Ok(true),
             Some(end) => {
                 self.back.add(end, position)?;
@@ -200,8 +202,9 @@ impl Spread {
         ensures { OnOk result (Reads graph.now position self.old self.new) }
     {
         let edge_count = graph.row_len(position);
+        let opened = graph.open_row(position);
         for place in 0..edge_count {
-            if self.read_edge(graph, position, place)? {
+            if self.read_edge(graph, &opened, position, place)? {
                 *work = work.saturating_add(place);
                 self.flood.meet(position)?;
                 return Ok(());

@@ -11,6 +11,7 @@ ghost use Rattle.tg_graph.specs.Rows.{IsPlaceOf, IsGapFor, label_in};
 use crate::edges_to_all::EdgesToAll;
 use crate::listed_edges::ListedEdges;
 use crate::names::Name;
+use crate::open_row::OpenRow;
 use crate::right_sets::Rights;
 use crate::shared_names::{Hint, SharedNames};
 use std::alloc::{AllocError, Global};
@@ -92,6 +93,16 @@ impl EdgeList {
         match &self.form {
             Form::Listed(edges) => edges.at(place),
             Form::ToAll(edges) => edges.at(place),
+        }
+    }
+
+    /// The edges to be read one by one, where all names are shared and each edge has its number.
+    pub fn open(&self) -> Option<OpenRow<'_>>
+        ensures { IfSome result (λ row. row ≡ self.now) }
+    {
+        match &self.form {
+            Form::Listed(edges) => edges.open(),
+            Form::ToAll(_) => None,
         }
     }
 

@@ -88,3 +88,50 @@ fn an_end_is_told_of_edges_that_are_asked_for(rt: HostRuntime) -> Result<(), Fai
     assert!(rt; g.end_at(20, 0, Wanted::All) == None);
     Ok(())
 }
+
+#[test]
+fn a_row_of_shared_names_is_laid_open(rt: HostRuntime) -> Result<(), Fail> {
+    let g = plain(&rt, rt.alloc(), 3);
+    let opened = g.open_row(1);
+    assert!(rt; opened.is_some());
+    let first = g.end_in(&opened, 1, 0, Wanted::All);
+    assert!(rt; first == Some((0, set(&rt, b"r"))));
+    assert!(rt; g.end_in(&opened, 1, 2, Wanted::With(Right::W)) == None);
+    assert!(rt; g.end_in(&opened, 1, 3, Wanted::All) == None);
+    Ok(())
+}
+
+#[test]
+fn a_row_with_a_name_of_its_own_is_read_as_before(rt: HostRuntime) -> Result<(), Fail> {
+    let g = mixed(&rt, rt.alloc());
+    let opened = g.open_row(1);
+    assert!(rt; opened.is_none());
+    let second = g.end_in(&opened, 1, 1, Wanted::Links);
+    assert!(rt; second == Some((15, set(&rt, b"rg"))));
+    assert!(rt; g.open_row(20).is_none());
+    Ok(())
+}
+
+#[test]
+fn rights_are_found_among_few_edges(rt: HostRuntime) -> Result<(), Fail> {
+    let g = plain(&rt, rt.alloc(), 8);
+    finds_rights(&rt, &g, 7, set(&rt, b"r"));
+    finds_rights(&rt, &g, 8, Rights::empty());
+    Ok(())
+}
+
+#[test]
+fn rights_are_found_among_more_edges(rt: HostRuntime) -> Result<(), Fail> {
+    let g = plain(&rt, rt.alloc(), 9);
+    finds_rights(&rt, &g, 8, set(&rt, b"r"));
+    finds_rights(&rt, &g, 9, Rights::empty());
+    Ok(())
+}
+
+#[test]
+fn rights_over_a_name_that_is_not_shared_are_found(rt: HostRuntime) -> Result<(), Fail> {
+    let g = mixed(&rt, rt.alloc());
+    finds_rights(&rt, &g, 15, set(&rt, b"rg"));
+    finds_rights(&rt, &g, 16, Rights::empty());
+    Ok(())
+}

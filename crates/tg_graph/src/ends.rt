@@ -1,9 +1,11 @@
 //! The ends of edges, by position.
-ghost use Rattle.std.specs.Prelude.{◌≡◌, bytes_eq, position};
+ghost use Rattle.std.specs.Prelude.{◌≡◌, IfSome, bytes_eq, position};
 ghost use Rattle.std.specs.Map.{keys_of};
 ghost use Rattle.tg_graph.specs.Ends.{is_wanted, end_of};
+ghost use Rattle.tg_graph.specs.Rows.{row_number};
 
 use crate::names::Name;
+use crate::open_row::OpenRow;
 use crate::protection::Graph;
 use crate::right_sets::{Right, Rights};
 
@@ -58,6 +60,39 @@ impl Graph {
             return None;
         }
         let end = self.position_or(self.likely_end(position, place), name)?;
+        Some((end, label))
+    }
+
+    /// The edges out of the vertex at a position, laid open for `end_in`, where they are kept so that this
+    /// makes it faster; `None` else, and past the last vertex. No memory is taken.
+    pub fn open_row(&self, position: usize) -> Option<OpenRow<'_>>
+        ensures { IfSome result (λ row. row ≡ row_number self.now position) }
+    {
+        let (_, row) = self.rows.get_index(position)?;
+        row.edges().open()
+    }
+
+    /// The same as `end_at`, found faster where the row is laid open.
+    #[inline(always)]
+    pub fn end_in(
+        &self,
+        opened: &Option<OpenRow<'_>>,
+        position: usize,
+        place: usize,
+        wanted: Wanted,
+    ) -> Option<(usize, Rights)>
+        requires { IfSome opened.now (λ row. row ≡ row_number self.now position) }
+        ensures { result ≡ end_of self.now position place wanted }
+    {
+        let Some(row) = opened else {
+            return self.end_at(position, place, wanted);
+        };
+        let (name, label) = row.at(place)?;
+        let is_wanted = wanted.wants(label);
+        if !is_wanted {
+            return None;
+        }
+        let end = self.position_or(row.likely_end(place), name)?;
         Some((end, label))
     }
 }

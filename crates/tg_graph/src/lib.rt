@@ -26,6 +26,7 @@ mod listed_edges;
 #[cfg(test)]
 mod memory_tests;
 mod names;
+mod open_row;
 mod protection;
 mod right_sets;
 mod row;
@@ -48,6 +49,7 @@ pub use draft::{Draft, Ready, drafts_apart_commute, drafts_fit_by_names};
 pub use ends::Wanted;
 pub use limits::{MOST_CELLS, MOST_SEATS, MOST_VERTICES};
 pub use names::{Name, NameFault};
+pub use open_row::OpenRow;
 pub use protection::{EdgeFault, Graph, VertexFault};
 pub use right_sets::{Right, Rights};
 pub use rules::{Refusal, Rule, RuleFault};

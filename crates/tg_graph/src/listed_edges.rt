@@ -11,6 +11,7 @@ ghost use Rattle.tg_graph.specs.Rows.{IsPlaceOf, IsGapFor, label_in};
 ghost use Rattle.tg_graph.specs.Sets.{IsNamed};
 
 use crate::names::Name;
+use crate::open_row::OpenRow;
 use crate::right_sets::Rights;
 use crate::shared_names::{Hint, SharedNames};
 use crate::targets::{Targets, shared_with};
@@ -32,7 +33,7 @@ const SPARE_NAMES: usize = 8;
 
 /// The number of a target, with eight bits for the label behind it.
 #[derive(Clone, Copy)]
-struct Edge {
+pub struct Edge {
     bits: u32,
 }
 
@@ -256,6 +257,14 @@ impl ListedEdges {
         let edge = self.edges.get(place).copied()?;
         let name = self.targets.at(edge.number())?;
         Some((name, edge.label()))
+    }
+
+    /// The edges to be read one by one, where all names are shared.
+    pub fn open(&self) -> Option<OpenRow<'_>>
+        ensures { IfSome result (λ row. row ≡ self.now) }
+    {
+        let names = self.targets.shared_alone()?;
+        Some(OpenRow::new(self.edges.as_slice(), names.as_slice(), names.positions()))
     }
 
     /// The names that are shared.

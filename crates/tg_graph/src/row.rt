@@ -7,6 +7,7 @@ ghost use Rattle.tg_graph.specs.Halves.{LastIsNotAbove};
 
 use crate::edge_list::EdgeList;
 use crate::names::Name;
+use crate::open_row::OpenRow;
 use crate::right_sets::Rights;
 use crate::shared_names::{Hint, SharedNames};
 use bitflags::Flags;
@@ -104,6 +105,13 @@ impl Row {
         ensures row { IsRow self.now }
     {
         self.edges.at(position)
+    }
+
+    /// The edges to be read one by one, where all names are shared and each edge has its number.
+    pub fn open(&self) -> Option<OpenRow<'_>>
+        ensures { IfSome result (λ row. row ≡ self.now) }
+    {
+        self.edges.open()
     }
 
     /// The position that the target of the edge at a place mostly has. It decides no answer.

@@ -200,6 +200,13 @@ impl SharedNames {
         &self.table.names
     }
 
+    /// The same, one behind the other.
+    pub fn as_slice(&self) -> &[Name]
+        ensures { result.now ≡ self.now }
+    {
+        self.table.names.as_slice()
+    }
+
     /// The positions of the vertices with these names, in name order. They decide no answer.
     pub fn positions(&self) -> &[u32] {
         self.table.positions.as_slice()

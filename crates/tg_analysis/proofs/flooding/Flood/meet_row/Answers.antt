@@ -7,8 +7,8 @@ use Rattle.tg_analysis.proofs.flooding.Flood.meet_row.Goals as goal
 pub loop-place-init : goal.loop-place-init
 loop-place-init c = ends-none c.args.graph.now c.args.position c.args.self.now
 
-pub meet_end-requires : goal.meet_end-requires
-meet_end-requires c = c.loop-place.invariant.meets.len ∙ c.requires
+pub meet_end-requires-clause-len : goal.meet_end-requires-clause-len
+meet_end-requires-clause-len c = c.loop-place.invariant.meets.len ∙ c.requires
 
 pub loop-place-preserved : goal.loop-place-preserved
 loop-place-preserved c = ends-next c.args.graph.now c.args.position c.loop-place.place c.args.self.now c.loop-place.self c.meet_end.new.self c.loop-place.invariant c.in_ok-meet_end.ensures
