@@ -338,7 +338,7 @@ module _ (es : Entries) (ok : IsGraph es) (asked : Asked) where
 
     pub spread-follows : (s t : Spread) → IsSpread es asked missing (p ∷ s.flood.waiting.items) s → HoldsNone g missing asked.y p → FollowsOn es p s t → IsSpread es asked missing t.flood.waiting.items t
     spread-follows s t is idle (inl f) =
-        let between : Spread = record { flood = f.between; back = s.back; followed = s.followed; missing = s.missing } in
+        let between : Spread = record s { flood = f.between } in
         spread-drop missing p t.flood.waiting.items t (spread-from (neighbours s.back p) between t (spread-from f.ahead.positions s between is f.ahead.meets refl refl (λ a h. let e = f.ahead.only a h in (e.0, inr e.1))) f.behind f.back f.followed (λ a h. let e = is.back_from a p h in (e.0, inl e.1))) idle (λ place b e. some_kept f.between t.flood f.behind.kept b (f.ahead.meets.met b (f.ahead.all place b (place_within es p place b e) e))) (λ a near. f.behind.met a (ap (λ lists. is_near lists p a) (sym f.back) ∙ near))
     spread-follows s t is idle (inr all) =
         subst (λ u. IsSpread es asked missing u.flood.waiting.items u) (sym all.1) (spread-drop missing p s.flood.waiting.items s is idle (λ place b e. all.0 b (end_within es ok p place b e)) (λ a near. let e = is.back_from a p near in all.0 a (row_there es ok a e.0 p e.1)))

@@ -51,10 +51,18 @@ struct Spread {
     followed: usize,
     // The rights that are asked for and that no position which was taken holds.
     missing: Rights,
+    // The number that the name of y mostly has among those that rows share. It decides no answer.
+    likely: Option<usize>,
 }
 
 impl Spread {
-    fn from(alloc: Global, count: usize, start: usize, rights: Rights) -> Result<Spread, AllocError>
+    fn from(
+        alloc: Global,
+        count: usize,
+        start: usize,
+        rights: Rights,
+        likely: Option<usize>,
+    ) -> Result<Spread, AllocError>
         requires { start < count }
         ensures { IfOk result (λ spread. BeginsAt count start rights spread) }
     {
@@ -65,6 +73,7 @@ impl Spread {
             back: Links::none(alloc, 0)?,
             followed: 0,
             missing: rights,
+            likely,
         })
     }
 
@@ -119,7 +128,8 @@ impl Spread {
         };
         self.followed += 1;
         *work = work.saturating_add(1);
-        self.missing = self.missing.difference(graph.rights_at(position, asked.y));
+        let held = graph.rights_near(position, asked.y, self.likely);
+        self.missing = self.missing.difference(held);
         if self.missing.is_empty() {
             return Ok(false);
         }
@@ -291,7 +301,8 @@ pub fn search_island(
     let count = graph.len();
     match graph.position(asked.x) {
         Some(start) => {
-            let mut spread = Spread::from(alloc, count, start, asked.rights)?;
+            let likely = graph.likely_number(asked.y);
+            let mut spread = Spread::from(alloc, count, start, asked.rights, likely)?;
             spread.run_for(graph, asked, count / FIRST_STEPS, work)?;
             if !spread.missing.is_empty() {
                 if !are_held(graph, spread.missing, asked.y) {
