@@ -10,16 +10,53 @@ use std::alloc::{AllocError, Global};
 use std::marker::Model;
 use std::sync::Arc;
 
-// How many slots there are for each name.
+// How many slots there are for each name, and how many lie together, where it may stand: sixteen bytes, which
+// mostly come from memory at once.
 const SLOTS_A_NAME: usize = 4;
 
-// Where a name may stand: its number, and the position of its vertex.
+const SLOTS_TOGETHER: usize = 4;
+
+// A position takes the low bits of a slot, and a mark of the name the eight bits above them. A name whose
+// position needs more is found by its order alone.
+const POSITION_BITS: u32 = 24;
+
+// The bits of a position.
+const POSITION_MASK: u32 = (1 << POSITION_BITS) - 1;
+
+// Where the vertex of a name may stand, in four bytes: a look-up waits for the memory that the slots are in,
+// and the more of them are near, the less it waits.
 #[derive(Clone, Copy)]
 struct Slot {
-    // What the name spreads to, by which it is known here, or 0 where no name stands.
-    spread: u32,
-    number: u32,
-    position: u32,
+    // A mark of the name, by which it is known here, and its position; 0 where no name stands.
+    bits: u32,
+}
+
+impl Slot {
+    // No name stands there.
+    fn empty() -> Slot {
+        Slot { bits: 0 }
+    }
+
+    // The mark of a name that spreads to this, which is never 0. Slots are told by the high bits, and the
+    // lowest hang on few bytes of a name, so that it is taken between.
+    fn mark(spread: u32) -> u32 {
+        ((spread >> 8) | 1) & 0xff
+    }
+
+    fn new(spread: u32, position: u32) -> Slot {
+        Slot {
+            bits: Slot::mark(spread) << POSITION_BITS | (position & POSITION_MASK),
+        }
+    }
+
+    // Whether a name that spreads to this may stand there.
+    fn may_have(self, spread: u32) -> bool {
+        self.bits >> POSITION_BITS == Slot::mark(spread)
+    }
+
+    fn position(self) -> usize {
+        (self.bits & POSITION_MASK) as usize
+    }
 }
 
 // Names by number, and what finds the number of a name.
@@ -33,8 +70,8 @@ struct NameTable {
     numbers: Vec<u32>,
     // Whether each name was found to be above the one before it, so that names rise with their numbers.
     rise: bool,
-    // A name whose slot has another's stands at the slot beside it. Where that has another's too, the
-    // name is looked for in the order, so that no choice of names makes a look-up dear.
+    // A name whose slot has another's stands at one beside it. Where all of these have others', the name is
+    // looked for in the order, so that no choice of names makes a look-up dear.
     slots: Vec<Slot>,
 }
 
@@ -122,39 +159,29 @@ fn slot_of(spread: u32, slots: usize) -> usize {
     (u64::from(spread).wrapping_mul(slots as u64) >> 32) as usize
 }
 
-// The slot beside a slot: they come in pairs.
-fn slot_beside(slot: usize) -> usize {
-    slot ^ 1
-}
-
-// Where a name that spreads to this is to stand: at its slot, or else at the slot beside it.
+// Where a name that spreads to this is to stand: at its slot, or else at the first of those beside it where
+// none stands.
 fn slot_for(slots: &[Slot], spread: u32) -> usize {
     let first = slot_of(spread, slots.len());
-    match slots.get(first) {
-        Some(slot) if slot.spread != 0 => slot_beside(first),
-        _ => first,
+    for beside in 0..SLOTS_TOGETHER {
+        match slots.get(first ^ beside) {
+            Some(slot) if slot.bits != 0 => {}
+            _ => return first ^ beside,
+        }
     }
+    first
 }
 
-// At the slot of each name, or at the slot beside it, where the name stands. Where both are taken, the
-// name takes the place of another.
+// At the slot of each name, or at one beside it, where the name stands. Where all are taken, the name takes
+// the place of another.
 fn slots_of(alloc: Global, in_order: &[(Name, u32)]) -> Result<Vec<Slot>, AllocError> {
     let count = in_order.len().saturating_mul(SLOTS_A_NAME);
-    let nowhere = Slot {
-        spread: 0,
-        number: 0,
-        position: 0,
-    };
-    let mut slots = Vec::from_elem(alloc, nowhere, count)?;
-    for (number, (name, position)) in in_order.iter().enumerate() {
+    let mut slots = Vec::from_elem(alloc, Slot::empty(), count)?;
+    for (name, position) in in_order {
         let spread = name.spread();
         let place = slot_for(slots.as_slice(), spread);
         if let Some(slot) = slots.get_mut(place) {
-            *slot = Slot {
-                spread,
-                number: u32::try_from(number).unwrap_or(0),
-                position: *position,
-            };
+            *slot = Slot::new(spread, *position);
         }
     }
     Ok(slots)
@@ -222,25 +249,28 @@ impl SharedNames {
         Some(*self.table.numbers.get(position)? as usize)
     }
 
-    // What stands at the slot of a name, or else at the slot beside it.
+    // What stands for a name at its slot, or at one beside it.
     fn slot(&self, name: Name) -> Option<Slot> {
         let slots = &self.table.slots;
         let spread = name.spread();
-        let place = slot_of(spread, slots.len());
-        match slots.get(place) {
-            Some(slot) if slot.spread == spread => Some(*slot),
-            _ => slots.get(slot_beside(place)).copied(),
+        let first = slot_of(spread, slots.len());
+        for beside in 0..SLOTS_TOGETHER {
+            let slot = *slots.get(first ^ beside)?;
+            if slot.may_have(spread) {
+                return Some(slot);
+            }
         }
+        None
     }
 
     /// The number that a name mostly has. It decides no answer.
     pub fn likely_number(&self, name: Name) -> Option<usize> {
-        Some(self.slot(name)?.number as usize)
+        self.number_at(self.likely_position(name)?)
     }
 
     /// The position that the vertex with a name mostly has. It decides no answer.
     pub fn likely_position(&self, name: Name) -> Option<usize> {
-        Some(self.slot(name)?.position as usize)
+        Some(self.slot(name)?.position())
     }
 
     /// The position of the vertex with a name, found by the order of the names. It decides no answer.
