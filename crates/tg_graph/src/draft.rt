@@ -82,9 +82,10 @@ fn widen(
     ensures err { OnErr result (rows.new.entries ≡ rows.old.entries) }
     ensures room { spare rows.old ≤ spare rows.new + 1 }
 {
+    let names = base.names.as_ref();
     let hint = Hint {
-        names: base.names.as_ref(),
-        number: None,
+        names,
+        number: names.and_then(|names| names.likely_number(y)),
     };
     match rows.get_mut(&x) {
         Some(row) => row.add(y, rights, hint),
@@ -126,15 +127,15 @@ fn narrow(
 // so far. Gives the next one from then on.
 fn note_position(
     positions: &mut Vec<usize>,
-    base: &IndexMap<Name, SharedRow>,
+    base: &Graph,
     name: Name,
     next: usize,
 ) -> Result<usize, AllocError>
     requires { next + 1 < 2 ^ 64 }
-    ensures { IfOk result (NotesPosition (keys_of base.now.entries) name next positions.old.items
-        positions.new.items) }
+    ensures { IfOk result
+        (NotesPosition (keys_of base.now) name next positions.old.items positions.new.items) }
 {
-    match base.get_index_of(&name) {
+    match base.position(name) {
         Some(position) => {
             positions.push(position)?;
             Ok(next)
@@ -178,7 +179,7 @@ impl Draft {
         let mut positions = Vec::with_capacity(self.alloc, self.rows.len())?;
         let mut next = base.rows.len();
         for (name, _) in &self.rows {
-            next = note_position(&mut positions, &base.rows, *name, next)?;
+            next = note_position(&mut positions, base, *name, next)?;
         }
         Ok(positions)
     }
@@ -306,7 +307,7 @@ impl Draft {
         let mut rows = row_maps::shared(&base.rows)?;
         let changes = row_maps::shared(&self.rows)?;
         rows.reserve(self.created())?;
-        row_maps::put_all(&mut rows, changes);
+        row_maps::put_all(&mut rows, base.names.as_ref(), changes);
         let names = shared_with(base.names.as_ref())?;
         Ok(Graph::of_rows(rows, names, base.alloc))
     }
@@ -375,7 +376,7 @@ impl Ready {
             draft,
         } = self;
         let Draft { rows: changed, .. } = draft;
-        row_maps::put_all(&mut rows, changed);
+        row_maps::put_all(&mut rows, names.as_ref(), changed);
         Graph::of_rows(rows, names, alloc)
     }
 
@@ -414,7 +415,7 @@ impl Graph {
         match self.rows.reserve(draft.created()) {
             Ok(()) => {
                 let Draft { rows, .. } = draft;
-                row_maps::put_all(&mut self.rows, rows);
+                row_maps::put_all(&mut self.rows, self.names.as_ref(), rows);
                 Ok(())
             }
             Err(AllocError) => Err(draft),

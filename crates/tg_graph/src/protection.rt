@@ -184,10 +184,13 @@ impl Graph {
         requires { is_known self.now x ≡ true }
         ensures row { IfOk result (λ row. lookup (bytes_eq x) self.now ≡ Some row) }
     {
-        match self.rows.get(&x) {
-            Some(row) => row.unshared(self.alloc),
-            None => SharedRow::new(self.alloc),
-        }
+        let Some(place) = self.position_near(self.source, x) else {
+            return SharedRow::new(self.alloc);
+        };
+        let Some((_, row)) = self.rows.get_index(place) else {
+            return SharedRow::new(self.alloc);
+        };
+        row.unshared(self.alloc)
     }
 }
 
@@ -283,9 +286,10 @@ impl Graph {
         let Some(source) = self.position_near(self.source, x) else {
             return Ok(());
         };
+        let names = self.names.as_ref();
         let hint = Hint {
-            names: self.names.as_ref(),
-            number: None,
+            names,
+            number: names.and_then(|names| names.likely_number(y)),
         };
         widen(&mut self.rows, source, x, y, rights, hint)?;
         Ok(())
@@ -539,6 +543,7 @@ impl Graph {
     }
 
     /// The same as `rights_at`, which is found sooner where the likely number of y is given.
+    #[inline(always)]
     pub fn rights_near(&self, position: usize, y: Name, likely: Option<usize>) -> Rights
         ensures rights { result ≡ label_in (row_number self.now position) y }
         ensures named { IsNamed result }

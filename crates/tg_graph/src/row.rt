@@ -252,8 +252,9 @@ impl Row {
         self.is_above(place, y) && self.is_below(place, y)
     }
 
-    /// The same as `place`, found at once where edges are put in one behind the other.
-    pub fn place_of_next(&self, y: Name) -> Result<usize, usize>
+    /// The same as `place`, found at once where edges are put in one behind the other. The name may have
+    /// this number among those that rows share.
+    pub fn place_of_next(&self, y: Name, likely: Option<usize>) -> Result<usize, usize>
         ensures found { IfOk result (IsPlaceOf self.now y) }
         ensures absent { IfErr result (IsGapFor self.now y) }
         ensures row { IsRow self.now }
@@ -261,7 +262,7 @@ impl Row {
         if self.in_turn && self.is_gap(self.next, y) {
             Err(self.next)
         } else {
-            self.place(y)
+            self.place_near(y, likely)
         }
     }
 
@@ -376,7 +377,7 @@ impl Row {
         if rights.is_empty() {
             return Ok(());
         }
-        match self.place_of_next(y) {
+        match self.place_of_next(y, hint.number) {
             Ok(place) => {
                 let label = Flags::union(self.label_at(place, y), rights);
                 self.write(place, y, label);

@@ -31,18 +31,6 @@ pub fn put(rows: &mut IndexMap<Name, SharedRow>, n: Name, row: SharedRow)
     }
 }
 
-/// Puts each of the changes in, where there is room for the new vertices among them.
-pub fn put_all(rows: &mut IndexMap<Name, SharedRow>, changes: IndexMap<Name, SharedRow>)
-    requires room { length
-        (insert_all bytes_eq rows.old.entries changes.entries) ≤ length rows.old.entries + spare
-        rows.old }
-    ensures { rows.new.entries ≡ insert_all bytes_eq rows.old.entries changes.entries }
-{
-    for (n, row) in changes {
-        put(rows, n, row);
-    }
-}
-
 /// The same rows, each with one more owner.
 pub fn shared(rows: &IndexMap<Name, SharedRow>) -> Result<IndexMap<Name, SharedRow>, AllocError>
     ensures { IfOk result (λ copy. copy.entries ≡ rows.now.entries) }
@@ -160,6 +148,31 @@ fn put_taken(rows: &mut IndexMap<Name, SharedRow>, taken: TakenRow)
         set_at(rows, place, row);
     } else {
         put(rows, name, row);
+    }
+}
+
+// The place that a vertex mostly has among rows that share these names. It decides no answer.
+fn likely_place(names: Option<&SharedNames>, n: Name) -> usize {
+    names
+        .and_then(|names| names.likely_position(n))
+        .unwrap_or(0)
+}
+
+/// Puts each of the changes in, where there is room for the new vertices among them. The names that the
+/// rows share tell where their vertices mostly stand.
+pub fn put_all(
+    rows: &mut IndexMap<Name, SharedRow>,
+    names: Option<&SharedNames>,
+    changes: IndexMap<Name, SharedRow>,
+)
+    requires room { length
+        (insert_all bytes_eq rows.old.entries changes.entries) ≤ length rows.old.entries + spare
+        rows.old }
+    ensures { rows.new.entries ≡ insert_all bytes_eq rows.old.entries changes.entries }
+{
+    for (name, row) in changes {
+        let place = likely_place(names, name);
+        put_taken(rows, TakenRow { place, name, row });
     }
 }
 

@@ -112,7 +112,7 @@ impl SharedRow {
         ensures absent { OnErr result (is_target self.old y ≡ false) }
         ensures err { OnErr result (self.new ≡ self.old) }
     {
-        match self.row.place_of_next(y) {
+        match self.row.place_of_next(y, hint.number) {
             Ok(_) => Ok(false),
             Err(place) => {
                 let row = Arc::make_mut(&mut self.row)?;

@@ -5,7 +5,7 @@ use Rattle.std.specs.Map.{keys_of}
 use Rattle.std.proofs.lemmas.List.{length-map, length-append, append_assoc, append-nil}
 use Rattle.indexmap.specs.IndexSet.{insert_all as set_all}
 use Rattle.indexmap.proofs.SetLemmas.{keys_insert_all}
-use Rattle.tg_graph.specs.Drafts.{Changes, NotesPosition}
+use Rattle.tg_graph.specs.Drafts.{Changes}
 use Rattle.tg_graph.proofs.Positions.{not_before, noted-more, length-keys_set}
 use Rattle.tg_graph.proofs.draft.Draft.positions.Goals as goal
 
@@ -26,7 +26,7 @@ loop-name-preserved c =
     let split = inv.1 ∙ ap (λ es. inv.0 ++ keys_of es) c.in-Some.ensures.steps in
     let fresh = not_before inv.0 name (keys_of c.next.new.self) (subst (IsDistinct bytes_eq) (ap (λ (d : Changes). keys_of d.0) c.self.view_is ∙ split) c.self.invariant.rows.apart) in
     let noted = noted-more base inv.0 name c.loop-name.next c.in_ok-next.next c.loop-name.positions.items c.note_position.new.positions.items fresh inv.2 inv.3
-    (subst (λ es. NotesPosition (keys_of es) name c.loop-name.next c.loop-name.positions.items c.note_position.new.positions.items c.in_ok-next.next) c.base.view_is c.in_ok-next.ensures) in
+    c.in_ok-next.ensures in
     (inv.0 ++ name ∷ [], split ∙ sym (append_assoc inv.0 (name ∷ []) (keys_of c.next.new.self)), noted.stand, noted.next_is)
 
 pub returns : goal.returns
