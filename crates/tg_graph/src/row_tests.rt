@@ -232,3 +232,38 @@ fn each_shared_name_is_found(rt: HostRuntime) -> Result<(), Fail> {
     assert!(rt; shared.find(Name::helper(MANY)).is_none());
     Ok(())
 }
+
+// A name of three letters, by number.
+fn three_letters(rt: &impl Abort, number: u32) -> Name {
+    let first = b'a' + (number / 256 % 16) as u8;
+    let second = b'a' + (number / 16 % 16) as u8;
+    let third = b'a' + (number % 16) as u8;
+    name(rt, &[first, second, third])
+}
+
+// How many of these names, once rows share them, are not found at their slots.
+fn missed(alloc: Global, names: &Vec<Name>) -> Result<usize, AllocError> {
+    let shared = SharedNames::new(alloc, names)?;
+    let mut missed = Vec::new(alloc);
+    for (position, name) in names.iter().enumerate() {
+        if shared.likely_position(*name) != Some(position) {
+            missed.push(*name)?;
+        }
+    }
+    Ok(missed.len())
+}
+
+// A name that is not at its slot is found by the order of names: a right answer that comes late, so that no
+// contract sees how many there are.
+#[test]
+fn one_name_of_a_hundred_at_most_is_not_at_its_slot(rt: HostRuntime) -> Result<(), Fail> {
+    let mut numbered = Vec::new(rt.alloc());
+    let mut short = Vec::new(rt.alloc());
+    for number in 0..4096 {
+        numbered.push(Name::helper(number))?;
+        short.push(three_letters(&rt, number))?;
+    }
+    assert!(rt; missed(rt.alloc(), &numbered)? <= 40);
+    assert!(rt; missed(rt.alloc(), &short)? <= 40);
+    Ok(())
+}
