@@ -72,8 +72,8 @@ fn an_index_that_is_kept_says_the_same(rt: HostRuntime) -> Result<(), Fail> {
     Ok(())
 }
 
-// Four rows and edges are half of what there is: a search that looks at each row pays for the islands, and two
-// questions that look at two rows each pay for the list.
+// Four rows and edges are half of what there is: a search that looks at each row pays for the islands,
+// and two questions that look at two rows each pay for the list.
 #[test]
 fn an_index_finds_what_was_paid_for(rt: HostRuntime) -> Result<(), Fail> {
     let g = graph(&rt, rt.alloc(), "a b c d", "a b t, c a r, c b r, c d r");

@@ -26,13 +26,13 @@ const PASS: usize = 64;
 /// What is known of a graph from the questions about sharing that it was asked: first nothing, then its
 /// islands, and last its edges by their targets.
 ///
-/// A question searches x's island, as `can_share` does. Once searches have looked at half as many rows and
-/// edges as there are, the next question finds the islands, in one pass over the edges, which takes some 70
-/// bytes a vertex and leaves 8; a question then looks at each row of an island. Once it has looked at half as
-/// many rows as there are rows and edges, the next question lists the edges, which takes 16 bytes an edge and 4
-/// a vertex; a question then goes through the edges to one vertex. So the questions before have paid for each of
-/// the two. Where memory for them is refused, questions are answered as before, and they are due again as late
-/// as the first time.
+/// A question searches x's island, as `can_share` does. Once searches have looked at half as many rows
+/// and edges as there are, the next question finds the islands, in one pass over the edges, which takes
+/// some 70 bytes a vertex and leaves 8; a question then looks at each row of an island. Once it has looked
+/// at half as many rows as there are rows and edges, the next question lists the edges, which takes 16
+/// bytes an edge and 4 a vertex; a question then goes through the edges to one vertex. So the questions
+/// before have paid for each of the two. Where memory for them is refused, questions are answered as
+/// before, and they are due again as late as the first time.
 #[derive(Drop)]
 pub struct SharingIndex {
     islands: Option<Islands>,
@@ -52,8 +52,8 @@ impl Model for SharingIndex {
     ghost view = { λ t. record { numbers = t.islands; listed = t.edges } };
 }
 
-// Whether a vertex of the island with the number holds the right over y. The rows that it looks at are added to
-// the looks.
+// Whether a vertex of the island with the number holds the right over y. The rows that it looks at are
+// added to the looks.
 fn holds_in(
     graph: &Graph,
     islands: &Islands,
@@ -121,7 +121,8 @@ impl SharingIndex {
         }
     }
 
-    // Whether so much work pays for what takes a pass over rows and edges. The edges are counted only where it may.
+    // Whether so much work pays for what takes a pass over rows and edges. The edges are counted only
+    // where it may.
     fn is_paid(&mut self, graph: &Graph, work: usize) -> bool
         ensures { self.new ≡ self.old }
     {

@@ -1,8 +1,8 @@
 //! The flood from one vertex that looks for holders of rights.
 //!
-//! It counts its work, so that others know what was paid: no more than the rows that it looks at for y, and the
-//! edges that it reads. The count decides no answer.
-ghost use Rattle.std.specs.Prelude.{◌≡◌, ◌↔◌, ◌<◌, ◌+◌, ◌∷◌, [], ℕ, true, IsTrue, IfOk, OnOk, MatchBool, ◌⊎◌, length};
+//! It counts its work, so that others know what was paid: no more than the rows that it looks at for y,
+//! and the edges that it reads. The count decides no answer.
+ghost use Rattle.std.specs.Prelude.{◌≡◌, ◌↔◌, ◌<◌, ◌+◌, ◌∷◌, [], ℕ, true, IsTrue, IfOk, IfSome, OnOk, MatchBool, ◌⊎◌, length};
 ghost use Rattle.std.specs.Map.{keys_of};
 ghost use Rattle.tg_graph.specs.declared.right_sets.Right.{Right};
 ghost use Rattle.tg_graph.specs.Sets.{member, is_empty_set, IsNamed};
@@ -277,8 +277,8 @@ impl Spread {
     }
 }
 
-/// Whether some list of rules gives x each right of the set over y: whether x's island holds each. To the work
-/// is added what the search did, where it came to its end.
+/// Whether some list of rules gives x each right of the set over y: whether x's island holds each. To the
+/// work is added what the search did, where it came to its end.
 ///
 /// The one error is want of memory.
 pub fn search_island(

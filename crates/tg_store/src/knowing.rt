@@ -19,7 +19,7 @@ pub struct Whole {
 }
 
 /// What a session knows of the graph that its draft stands for, from the questions about sharing that came
-/// before, until a rule is carried out or a record is taken in.
+/// before, until a rule is carried out.
 #[derive(Drop)]
 pub enum Known {
     /// The draft changes nothing, and the index is that of the base.

@@ -107,8 +107,8 @@ impl OpenSession {
         }
     }
 
-    // Answers a step, and keeps it with its reply. An error changes no step; where there is no room for the step,
-    // what is known is given up, so that it does not stand in the way of the next try.
+    // Answers a step, and keeps it with its reply. An error changes no step; where there is no room for the
+    // step, what is known is given up, so that it does not stand in the way of the next try.
     pub(crate) fn stage(&mut self, base: &Graph, step: &Step) -> Result<Reply, AllocError>
         requires on { IsSessionOn base.now self.old }
         requires named { IsNamedStep step.now }
