@@ -1,5 +1,5 @@
 -- A flood from one vertex: what was met stays in its island, and at the end is all of it.
-use Rattle.std.proofs.Common.{◌≡◌, ℕ, ◌+◌, ◌*◌, cond, ◌<◌, ◌≤◌, Bool, true, false, ◌&&◌, ◌⊎◌, inl, inr, List, [], ◌∷◌, length, replicate, Option, Some, None, get_or, slice_get, is_some, nat_eq, bytes_eq, refl, sym, ap, ◌∙◌, subst, IsTrue, arith, lit<, length-append}
+use Rattle.std.proofs.Common.{◌≡◌, ℕ, ◌+◌, ◌*◌, cond, ◌<◌, ◌≤◌, Bool, true, false, ◌&&◌, ◌⊎◌, inl, inr, List, [], ◌∷◌, length, replicate, Option, Some, None, get_or, slice_get, is_some, nat_eq, bytes_eq, refl, sym, ap, ◌∙◌, subst, IsTrue, MatchBool, arith, lit<, length-append}
 use Rattle.std.specs.Prelude.{not, count_by}
 use Rattle.std.specs.List.{list_any, position}
 use Rattle.std.specs.Map.{keys_of}
@@ -371,6 +371,11 @@ module _ (es : Entries) (ok : IsGraph es) (asked : Asked) where
       calm = ran.calm;
       read = λ a place b lt e. elim (read a place b lt e) [ inl met ↦ inl (ran.grows a met) | inr near ↦ inr (ap (λ lists. is_near lists b a) ran.back ∙ near) ];
     })
+
+    -- unless that is hopeless
+    pub rests-unless : (Hopeless : Type 0) (left : Rights) (s t : Spread) → length s.back ≡ length (keys_of es) → HasRead es (i + 1) s → (hopeless : Bool) → MatchBool hopeless Hopeless (IsTrue (is_empty_set left) ⊎ RunsOut es asked left s t) → MatchBool hopeless Hopeless (IsTrue (is_empty_set left) ⊎ IsAtRest es asked left (i + 1) t)
+    rests-unless Hopeless left s t listed read true h = h
+    rests-unless Hopeless left s t listed read false h = rests left s t listed read h
 
     -- the lists have grown by edges to what was not met
     spread-notes : (missing : Rights) (here : ℕ) (s t : Spread) → IsSpread es asked missing [] s → ReadsUpTo es i here s t → IsSpread es asked missing [] t

@@ -33,6 +33,10 @@ pub record IsMissing (es : Entries) (asked : Asked) (missing : Rights) : Type 0 
   pub among : (right : Right) → IsTrue (member missing right) → IsTrue (member asked.rights right)
   pub found : (right : Right) → IsTrue (member asked.rights right) → IsTrue (member missing right) ⊎ HeldInIsland (graph_of es) right asked.x asked.y
 
+-- x's island holds each right that is asked for
+abbrev pub AreHeldInIsland : Entries → Asked → Type 0
+AreHeldInIsland es asked = (right : Right) → IsTrue (member asked.rights right) → HeldInIsland (graph_of es) right asked.x asked.y
+
 -- the start alone was met, and waits, and all the rights are missing
 pub record BeginsAt (count start : ℕ) (rights : Rights) (spread : Spread) : Type 0 where
   pub before : Flood
@@ -117,6 +121,12 @@ pub record IsAtRest (es : Entries) (asked : Asked) (missing : Rights) (i : ℕ) 
 pub record RunsOut (es : Entries) (asked : Asked) (missing : Rights) (old new : Spread) : Type 0 where
   pub is_spread : IsSpread es asked missing [] new
   pub calm : new.flood.waiting.items ≡ []
+  pub back : new.back ≡ old.back
+  pub grows : (a : ℕ) → IsMet old a → IsMet new a
+
+-- some positions were taken up, and the flood may go on
+pub record GoesOn (es : Entries) (asked : Asked) (missing : Rights) (old new : Spread) : Type 0 where
+  pub is_spread : IsSpread es asked missing new.flood.waiting.items new
   pub back : new.back ≡ old.back
   pub grows : (a : ℕ) → IsMet old a → IsMet new a
 

@@ -13,7 +13,7 @@ ghost use Rattle.tg_graph.specs.RuleLists.{CanShareAll};
 ghost use Rattle.tg_analysis.specs.Sharing.{HeldInIsland};
 ghost use Rattle.tg_analysis.specs.Linked.{is_near};
 ghost use Rattle.tg_analysis.specs.Flooding.{work_left};
-ghost use Rattle.tg_analysis.specs.Spreading.{BeginsAt, Follows, FollowsOn, StepsOn, ReadsEdge, Reads, IsMissing, IsSpread, RunsOut, IsAtRest};
+ghost use Rattle.tg_analysis.specs.Spreading.{BeginsAt, Follows, FollowsOn, StepsOn, ReadsEdge, Reads, IsMissing, AreHeldInIsland, IsSpread, GoesOn, RunsOut, IsAtRest};
 
 use crate::flooding::Flood;
 use crate::holders::are_held;
@@ -26,6 +26,10 @@ use tg_graph::{Graph, Name, OpenRow, Rights};
 // Before all rows are looked at for a holder, an eighth as many positions are taken up: what is answered
 // near x needs no more.
 const FIRST_STEPS: usize = 8;
+
+// Where nothing is left to take up before that, rows are read that may lead back, until the search has done
+// eight times as much work as there are vertices: about what the looks take.
+const WORK_BEFORE: usize = 8;
 
 /// The question whether x can come to have each right of a set over y.
 #[derive(Clone, Copy)]
@@ -165,7 +169,7 @@ impl Spread {
             self.old.flood.waiting.items self.old }
         ensures missing { OnOk result (IsMissing graph.now asked.now self.new.missing) }
         ensures spread { OnOk result (IsTrue (is_empty_set self.new.missing)
-            ⊎ IsSpread graph.now asked.now self.new.missing self.new.flood.waiting.items self.new) }
+            ⊎ GoesOn graph.now asked.now self.new.missing self.old self.new) }
     {
         for _ in 0..steps {
             if !self.step(graph, asked, work)? {
@@ -224,56 +228,117 @@ impl Spread {
         Ok(())
     }
 
-    // Reads the row of a position, if it was not met, and goes on from there.
+    // Looks for a holder of each right that is missing, unless it was seen before that there is one. It says
+    // whether one has none: what no vertex holds needs no further search.
+    fn is_hopeless(
+        &self,
+        graph: &Graph,
+        asked: &Asked,
+        is_held: &mut bool,
+        work: &mut usize,
+    ) -> bool
+        requires { IsMissing graph.now asked.now self.now.missing }
+        ensures { IsTrue result → AreHeldInIsland graph.now asked.now → ⊥ }
+    {
+        if *is_held {
+            return false;
+        }
+        *is_held = are_held(graph, self.missing, asked.y);
+        if *is_held {
+            return false;
+        }
+        *work = work.saturating_add(graph.len());
+        true
+    }
+
+    // Goes on until no right is missing, or nothing is left to follow; where that takes more steps than a
+    // few, only if it is not hopeless. It says whether it is.
+    fn go_on(
+        &mut self,
+        graph: &Graph,
+        asked: &Asked,
+        is_held: &mut bool,
+        work: &mut usize,
+    ) -> Result<bool, AllocError>
+        requires graph { IsGraph graph.now }
+        requires missing { IsMissing graph.now asked.now self.old.missing }
+        requires spread { IsSpread graph.now asked.now self.old.missing
+            self.old.flood.waiting.items self.old }
+        ensures missing { OnOk result (IsMissing graph.now asked.now self.new.missing) }
+        ensures end { IfOk result (λ hopeless. MatchBool hopeless
+            (AreHeldInIsland graph.now asked.now → ⊥)
+            (IsTrue (is_empty_set self.new.missing)
+            ⊎ RunsOut graph.now asked.now self.new.missing self.old self.new)) }
+    {
+        self.run_for(graph, asked, graph.len() / FIRST_STEPS, work)?;
+        if self.missing.is_empty() {
+            return Ok(false);
+        }
+        if !self.flood.waiting.is_empty() && self.is_hopeless(graph, asked, is_held, work) {
+            return Ok(true);
+        }
+        self.run(graph, asked, work)?;
+        Ok(false)
+    }
+
+    // Reads the row of a position, if it was not met, and goes on from there. It says whether that is
+    // hopeless.
     fn visit(
         &mut self,
         graph: &Graph,
         asked: &Asked,
         position: usize,
+        is_held: &mut bool,
         work: &mut usize,
-    ) -> Result<(), AllocError>
+    ) -> Result<bool, AllocError>
         requires graph { IsGraph graph.now }
         requires missing { IsMissing graph.now asked.now self.old.missing }
         requires rest { IsAtRest graph.now asked.now self.old.missing position self.old }
         requires within { position < length (keys_of graph.now) }
         ensures missing { OnOk result (IsMissing graph.now asked.now self.new.missing) }
-        ensures rest { OnOk result (IsTrue (is_empty_set self.new.missing)
-            ⊎ IsAtRest graph.now asked.now self.new.missing (position + 1) self.new) }
+        ensures rest { IfOk result (λ hopeless. MatchBool hopeless
+            (AreHeldInIsland graph.now asked.now → ⊥)
+            (IsTrue (is_empty_set self.new.missing)
+            ⊎ IsAtRest graph.now asked.now self.new.missing (position + 1) self.new)) }
     {
         if self.flood.numbers[position].is_some() {
-            return Ok(());
+            return Ok(false);
         }
         self.read_row(graph, position, work)?;
-        self.run(graph, asked, work)?;
-        Ok(())
+        let hopeless = self.go_on(graph, asked, is_held, work)?;
+        Ok(hopeless)
     }
 
-    // Finds the rights that no vertex of x's island holds.
+    // Whether each right that is asked for is held in x's island.
     fn search(
         &mut self,
         alloc: Global,
         graph: &Graph,
         asked: &Asked,
+        is_held: &mut bool,
         work: &mut usize,
-    ) -> Result<(), AllocError>
+    ) -> Result<bool, AllocError>
         requires missing { IsMissing graph.now asked.now self.old.missing }
-        requires spread { IsSpread graph.now asked.now self.old.missing
-            self.old.flood.waiting.items self.old }
+        requires spread { IsSpread graph.now asked.now self.old.missing [] self.old }
+        requires calm { self.old.flood.waiting.items ≡ [] }
         requires source { has_vertex (graph_of graph.now) asked.now.x ≡ true }
-        ensures missing { OnOk result (IsMissing graph.now asked.now self.new.missing) }
-        ensures lacking { OnOk result ((right : Right) → IsTrue (member self.new.missing right)
-            → HeldInIsland (graph_of graph.now) right asked.now.x asked.now.y → ⊥) }
+        ensures { IfOk result (λ found. IsTrue found ↔ AreHeldInIsland graph.now asked.now) }
     {
         let count = graph.len();
+        let due = work.saturating_add(count.saturating_mul(WORK_BEFORE));
         self.back = Links::none(alloc, count)?;
-        self.run(graph, asked, work)?;
         for position in 0..count {
             if self.missing.is_empty() {
-                return Ok(());
+                return Ok(true);
             }
-            self.visit(graph, asked, position, work)?;
+            if *work >= due && self.is_hopeless(graph, asked, is_held, work) {
+                return Ok(false);
+            }
+            if self.visit(graph, asked, position, is_held, work)? {
+                return Ok(false);
+            }
         }
-        Ok(())
+        Ok(self.missing.is_empty())
     }
 }
 
@@ -303,15 +368,15 @@ pub fn search_island(
         Some(start) => {
             let likely = graph.likely_number(asked.y);
             let mut spread = Spread::from(alloc, count, start, asked.rights, likely)?;
-            spread.run_for(graph, asked, count / FIRST_STEPS, work)?;
-            if !spread.missing.is_empty() {
-                if !are_held(graph, spread.missing, asked.y) {
-                    *work = work.saturating_add(count);
-                    return Ok(false);
-                }
-                spread.search(alloc, graph, asked, work)?;
+            let mut is_held = false;
+            if spread.go_on(graph, asked, &mut is_held, work)? {
+                return Ok(false);
             }
-            Ok(spread.missing.is_empty())
+            if spread.missing.is_empty() {
+                return Ok(true);
+            }
+            let found = spread.search(alloc, graph, asked, &mut is_held, work)?;
+            Ok(found)
         }
         None => Ok(false),
     }

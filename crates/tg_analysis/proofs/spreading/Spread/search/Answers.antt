@@ -1,13 +1,26 @@
-use Rattle.std.proofs.Common.{◌≤◌, inl, inr, length, refl, sym, ◌∙◌, arith}
+use Rattle.std.proofs.Common.{◌≤◌, IsTrue, inl, inr, length, refl, sym, ◌∙◌, true≢false, arith}
 use Rattle.std.specs.Map.{keys_of}
 use Rattle.std.proofs.lemmas.Map.Entries.{length-keys_of}
-use Rattle.tg_analysis.proofs.Spreads.{none_among, spread-ends, spread-unlisted}
+use Rattle.tg_graph.specs.declared.right_sets.Right.{Right}
+use Rattle.tg_graph.specs.Sets.{member}
+use Rattle.tg_graph.specs.GraphOf.{graph_of}
+use Rattle.tg_analysis.specs.Sharing.{HeldInIsland}
+use Rattle.tg_analysis.proofs.Spreads.{all_held, then_none_missing, none_among, spread-ends}
 use Rattle.tg_analysis.proofs.spreading.Spread.search.Goals as goal
 
-pub run-requires-clause-spread : goal.run-requires-clause-spread
-run-requires-clause-spread c = spread-unlisted c.args.graph.now c.len-count.ensures.graph c.args.asked.now c.len-count.result (c.len-count.ensures.value ∙ sym (length-keys_of c.args.graph.now)) c.args.self.now.missing c.args.self.now.flood.waiting.items c.args.self.now (record c.args.self.now { back = c.in_ok-self.field-0 }) c.requires.spread refl refl c.in_ok-self.ensures
+pub returns-then-is_empty : goal.returns-then-is_empty
+returns-then-is_empty c = (λ yes. all_held c.args.graph.now c.len-count.ensures.graph c.args.asked.now c.loop-position.self.missing (sym (c.is_empty.ensures tt) ∙ c.if-is_empty.true) c.loop-position.invariant.is_missing, λ all. refl)
 
-pub returns-clause-lacking : goal.returns-clause-lacking
-returns-clause-lacking c =
+pub visit-requires-clause-rest : goal.visit-requires-clause-rest
+visit-requires-clause-rest c = elim c.loop-position.invariant.rest [ inl none ↦ absurd (true≢false (sym none ∙ sym (c.is_empty.ensures tt) ∙ c.if-is_empty.false)) | inr rest ↦ rest ]
+
+pub returns : goal.returns
+returns c =
     let end : length (keys_of c.args.graph.now) ≤ c.loop-position.position = omega (arith, c.len-count.ensures.value, length-keys_of c.args.graph.now) in
-    λ right m held. elim c.loop-position.invariant.rest [ inl none ↦ none_among c.loop-position.self.missing none right m | inr rest ↦ spread-ends c.args.graph.now c.len-count.ensures.graph c.args.asked.now c.len-count.ensures.well_formed c.loop-position.self.missing c.loop-position.position c.loop-position.self end c.requires.source rest right m held ]
+    let missing = c.loop-position.self.missing in
+    let lacking : (right : Right) → IsTrue (member missing right) → HeldInIsland (graph_of c.args.graph.now) right c.args.asked.now.x c.args.asked.now.y → ⊥ =
+    λ right m held. elim c.loop-position.invariant.rest [ inl none ↦ none_among missing none right m | inr rest ↦ spread-ends c.args.graph.now c.len-count.ensures.graph c.args.asked.now c.len-count.ensures.well_formed missing c.loop-position.position c.loop-position.self end c.requires.source rest right m held ] in
+    let said = c.is_empty-2.ensures tt in (
+      λ none. all_held c.args.graph.now c.len-count.ensures.graph c.args.asked.now missing (sym said ∙ none) c.loop-position.invariant.is_missing,
+      λ all. said ∙ then_none_missing c.args.graph.now c.len-count.ensures.graph c.args.asked.now missing c.loop-position.invariant.is_missing lacking all,
+    )
