@@ -14,8 +14,9 @@ use crate::near_rows::near_in_rows;
 use std::alloc::{AllocError, Global};
 use tg_graph::{Graph, Name, Right};
 
-// The links are listed before a quarter as many rows are looked at as there are edges, so that the looks
-// cost less than the list, and a graph of few edges is not looked at row by row.
+// The links are listed before a quarter as many rows are looked at as there are edges: the looks cost less
+// than the list where most edges link, and about twice as much at most where few do. A graph of few edges
+// is not looked at row by row.
 const LOOKS_A_LIST: usize = 4;
 
 /// A chain of links from a vertex that holds a right.

@@ -76,8 +76,8 @@ impl Edge {
     }
 }
 
-// How many of the edges have this number of their own bits or more. No branch depends on them, so that
-// the processor has nothing to guess.
+// How many of the edges have bits that are, as a number, this or more. No branch depends on them, so
+// that the processor has nothing to guess.
 fn count_from(edges: &[Edge], bits: u32) -> u32 {
     let mut count: u32 = 0;
     for edge in edges {
