@@ -63,10 +63,6 @@ module _ (es : Entries) (ok : IsGraph es) (rights : Rights) (y : Name) where
             let is : a ≡ position = omega arith in
             ap (λ n. member (label_in (row_number es n) y) right) is ∙ ap (λ s. member s right) (sym is_held) ∙ (of_left right m).1
 
-  -- nothing is missing
-  pub looked-all : (missing : Rights) (position : ℕ) → LookedUpTo es rights y missing position → IsTrue (is_empty_set missing) → AreHeld (graph_of es) rights y
-  looked-all missing position so_far none right m = elim (so_far.found right m) [ inl h ↦ absurd (none_among missing none right h) | inr held ↦ held ]
-
   -- all rows were looked at
   pub looked-whole : WellFormed (graph_of es) → (missing : Rights) (position : ℕ) → length (keys_of es) ≤ position → LookedUpTo es rights y missing position → AreHeld (graph_of es) rights y → IsTrue (is_empty_set missing)
   looked-whole well missing position end so_far held = ap is_empty_set (same_set missing nothing none so_far.named (lit< tt))

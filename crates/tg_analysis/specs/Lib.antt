@@ -15,4 +15,3 @@ pub mod Gathered
 pub mod Tables
 pub mod ByTarget
 pub mod Holders
-pub mod NearRows

@@ -11,7 +11,7 @@ ghost use Rattle.tg_analysis.specs.Searches.{IsSearching, SearchesOn};
 ghost use Rattle.tg_analysis.specs.Questions.{derivation_fault, IsDueFault};
 
 use crate::chains::Search;
-use crate::holders::are_held;
+use crate::holders::lacks_holder;
 use crate::moves::add_move;
 use crate::questions::AskFault;
 use std::alloc::{AllocError, Global};
@@ -108,10 +108,11 @@ fn derive(
         (CanShareAll (graph_of graph.now) rights x y → ⊥)
         (λ rules. IsDerivationOfAll (graph_of graph.now) rights x y rules.items)) }
 {
-    if !are_held(graph, rights, y) {
+    let mut search = Search::from(alloc, graph, x)?;
+    // a look at a short row takes no longer than a link that was listed
+    if lacks_holder(graph, rights, y, search.link_count()) {
         return Ok(None);
     }
-    let mut search = Search::from(alloc, graph, x)?;
     let mut rules = Vec::new(alloc);
     let mut next = 0;
     for right in &Right::ALL {

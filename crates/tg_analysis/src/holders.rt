@@ -1,5 +1,5 @@
 //! Who holds rights over one vertex.
-ghost use Rattle.std.specs.Prelude.{◌≡◌, ◌↔◌, IsTrue};
+ghost use Rattle.std.specs.Prelude.{◌≡◌, IsTrue};
 ghost use Rattle.tg_graph.specs.declared.right_sets.Right.{Right};
 ghost use Rattle.tg_graph.specs.Sets.{member, IsNamed};
 ghost use Rattle.tg_graph.specs.GraphOf.{graph_of};
@@ -18,19 +18,40 @@ pub(crate) fn named(rights: Rights) -> Rights
     named
 }
 
-/// Whether some vertex holds each right of the set over y, not the same one for each. Where none does,
-/// no list of rules gives anybody such a right. It looks once at each row.
-pub(crate) fn are_held(graph: &Graph, rights: Rights, y: Name) -> bool
-    ensures { IsTrue result ↔ AreHeld (graph_of graph.now) rights y }
+// A row of so few edges is short: a look at it goes through its edges one by one.
+const SHORT_ROW: usize = 8;
+
+// A look at a longer row, or for a name that rows do not share, takes as long as so many at short rows.
+const LONG_LOOK: usize = 8;
+
+// What a look at the row of a position takes, in looks at short rows.
+fn cost_of_look(graph: &Graph, position: usize, likely: Option<usize>) -> usize {
+    if likely.is_some() && graph.row_len(position) <= SHORT_ROW {
+        1
+    } else {
+        LONG_LOOK
+    }
+}
+
+/// Whether some right of the set was seen to be held over y by no vertex: then no list of rules gives it
+/// to anybody. It looks at one row after another, unless they take longer than so many looks at short
+/// rows; then it has not seen it.
+pub(crate) fn lacks_holder(graph: &Graph, rights: Rights, y: Name, most: usize) -> bool
+    ensures { IsTrue result → AreHeld (graph_of graph.now) rights y → ⊥ }
 {
     let count = graph.len();
+    if most < count {
+        return false;
+    }
     let likely = graph.likely_number(y);
     let mut missing = named(rights);
+    let mut taken: usize = 0;
     for position in 0..count {
-        if missing.is_empty() {
-            return true;
+        taken = taken.saturating_add(cost_of_look(graph, position, likely));
+        if taken > most || missing.is_empty() {
+            return false;
         }
         missing = missing.difference(graph.rights_near(position, y, likely));
     }
-    missing.is_empty()
+    !missing.is_empty()
 }

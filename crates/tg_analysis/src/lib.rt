@@ -26,7 +26,6 @@ mod links;
 mod memory_tests;
 mod met;
 mod moves;
-mod near_rows;
 mod numbering;
 mod positions;
 #[cfg(test)]

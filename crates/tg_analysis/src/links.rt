@@ -63,6 +63,15 @@ impl Links {
         self.near.len()
     }
 
+    /// How many links there are: an edge that links stands in the lists of both its ends.
+    pub fn count(&self) -> usize {
+        let mut count: usize = 0;
+        for near in &self.near {
+            count = count.saturating_add(near.len());
+        }
+        count / 2
+    }
+
     /// The positions of the vertices that are linked to the one at a position; none past the end.
     pub fn at(&self, position: usize) -> &[u32]
         ensures { result.now ≡ neighbours self.now position }

@@ -16,20 +16,16 @@ ghost use Rattle.tg_analysis.specs.Flooding.{work_left};
 ghost use Rattle.tg_analysis.specs.Spreading.{BeginsAt, Follows, FollowsOn, StepsOn, ReadsEdge, Reads, IsMissing, AreHeldInIsland, IsSpread, GoesOn, RunsOut, IsAtRest};
 
 use crate::flooding::Flood;
-use crate::holders::are_held;
+use crate::holders::lacks_holder;
 use crate::laws;
 use crate::links::{Links, linked_end};
 use bitflags::Flags;
 use std::alloc::{AllocError, Global};
 use tg_graph::{Graph, Name, OpenRow, Rights};
 
-// Before all rows are looked at for a holder, an eighth as many positions are taken up: what is answered
-// near x needs no more.
-const FIRST_STEPS: usize = 8;
-
-// Where nothing is left to take up before that, rows are read that may lead back, until the search has done
-// eight times as much work as there are vertices: about what the looks take.
-const WORK_BEFORE: usize = 8;
+// Before rows are looked at for a holder, half as many positions are taken up in one go: what is answered
+// near x needs no more, and to take them up takes longer than as many looks at short rows.
+const FIRST_STEPS: usize = 2;
 
 /// The question whether x can come to have each right of a set over y.
 #[derive(Clone, Copy)]
@@ -228,27 +224,25 @@ impl Spread {
         Ok(())
     }
 
-    // Looks for a holder of each right that is missing, unless it was seen before that there is one. It says
-    // whether one has none: what no vertex holds needs no further search.
+    // Looks for a holder of each right that is missing, once in a search, and for no longer than at as many
+    // short rows as there are vertices. It says whether one was seen to have none: what no vertex holds
+    // needs no further search.
     fn is_hopeless(
         &self,
         graph: &Graph,
         asked: &Asked,
-        is_held: &mut bool,
+        has_looked: &mut bool,
         work: &mut usize,
     ) -> bool
         requires { IsMissing graph.now asked.now self.now.missing }
         ensures { IsTrue result → AreHeldInIsland graph.now asked.now → ⊥ }
     {
-        if *is_held {
+        if *has_looked {
             return false;
         }
-        *is_held = are_held(graph, self.missing, asked.y);
-        if *is_held {
-            return false;
-        }
+        *has_looked = true;
         *work = work.saturating_add(graph.len());
-        true
+        lacks_holder(graph, self.missing, asked.y, graph.len())
     }
 
     // Goes on until no right is missing, or nothing is left to follow; where that takes more steps than a
@@ -257,7 +251,7 @@ impl Spread {
         &mut self,
         graph: &Graph,
         asked: &Asked,
-        is_held: &mut bool,
+        has_looked: &mut bool,
         work: &mut usize,
     ) -> Result<bool, AllocError>
         requires graph { IsGraph graph.now }
@@ -274,7 +268,7 @@ impl Spread {
         if self.missing.is_empty() {
             return Ok(false);
         }
-        if !self.flood.waiting.is_empty() && self.is_hopeless(graph, asked, is_held, work) {
+        if !self.flood.waiting.is_empty() && self.is_hopeless(graph, asked, has_looked, work) {
             return Ok(true);
         }
         self.run(graph, asked, work)?;
@@ -288,7 +282,7 @@ impl Spread {
         graph: &Graph,
         asked: &Asked,
         position: usize,
-        is_held: &mut bool,
+        has_looked: &mut bool,
         work: &mut usize,
     ) -> Result<bool, AllocError>
         requires graph { IsGraph graph.now }
@@ -305,7 +299,7 @@ impl Spread {
             return Ok(false);
         }
         self.read_row(graph, position, work)?;
-        let hopeless = self.go_on(graph, asked, is_held, work)?;
+        let hopeless = self.go_on(graph, asked, has_looked, work)?;
         Ok(hopeless)
     }
 
@@ -315,7 +309,7 @@ impl Spread {
         alloc: Global,
         graph: &Graph,
         asked: &Asked,
-        is_held: &mut bool,
+        has_looked: &mut bool,
         work: &mut usize,
     ) -> Result<bool, AllocError>
         requires missing { IsMissing graph.now asked.now self.old.missing }
@@ -325,16 +319,12 @@ impl Spread {
         ensures { IfOk result (λ found. IsTrue found ↔ AreHeldInIsland graph.now asked.now) }
     {
         let count = graph.len();
-        let due = work.saturating_add(count.saturating_mul(WORK_BEFORE));
         self.back = Links::none(alloc, count)?;
         for position in 0..count {
             if self.missing.is_empty() {
                 return Ok(true);
             }
-            if *work >= due && self.is_hopeless(graph, asked, is_held, work) {
-                return Ok(false);
-            }
-            if self.visit(graph, asked, position, is_held, work)? {
+            if self.visit(graph, asked, position, has_looked, work)? {
                 return Ok(false);
             }
         }
@@ -368,14 +358,14 @@ pub fn search_island(
         Some(start) => {
             let likely = graph.likely_number(asked.y);
             let mut spread = Spread::from(alloc, count, start, asked.rights, likely)?;
-            let mut is_held = false;
-            if spread.go_on(graph, asked, &mut is_held, work)? {
+            let mut has_looked = false;
+            if spread.go_on(graph, asked, &mut has_looked, work)? {
                 return Ok(false);
             }
             if spread.missing.is_empty() {
                 return Ok(true);
             }
-            let found = spread.search(alloc, graph, asked, &mut is_held, work)?;
+            let found = spread.search(alloc, graph, asked, &mut has_looked, work)?;
             Ok(found)
         }
         None => Ok(false),

@@ -87,11 +87,11 @@ impl Graph {
         let Some(row) = opened else {
             return self.end_at(position, place, wanted);
         };
-        let (name, label) = row.at(place)?;
-        let is_wanted = wanted.wants(label);
+        let is_wanted = wanted.wants(row.label_at(place)?);
         if !is_wanted {
             return None;
         }
+        let (name, label) = row.at(place)?;
         let end = self.position_or(row.likely_end(place), name)?;
         Some((end, label))
     }

@@ -1,5 +1,6 @@
 //! Rows whose edges are read one by one.
 ghost use Rattle.std.specs.Prelude.{◌≡◌, slice_get};
+ghost use Rattle.std.specs.Option.{option_map};
 ghost use Rattle.tg_graph.specs.EdgeLists.{edges_of, AreWithin};
 
 use crate::listed_edges::Edge;
@@ -51,6 +52,15 @@ impl<'a> OpenRow<'a> {
         let edge = self.edges.get(place).copied()?;
         let name = self.names.get(edge.number()).copied()?;
         Some((name, edge.label()))
+    }
+
+    /// The label of the edge at a place. No name is looked at.
+    #[inline(always)]
+    pub(crate) fn label_at(&self, place: usize) -> Option<Rights>
+        ensures { result ≡ option_map (λ edge. edge.1) (slice_get self.now place) }
+    {
+        let edge = self.edges.get(place).copied()?;
+        Some(edge.label())
     }
 
     /// The position that the target of the edge at a place mostly has. It decides no answer.

@@ -536,10 +536,10 @@ impl Graph {
         }
     }
 
-    /// The number that a name mostly has among those that rows share, by which `rights_near` finds the
-    /// edges to its vertex sooner. It decides no answer.
+    /// The number that a name has among those that rows share, by which `rights_near` finds the edges to
+    /// its vertex sooner; `None` where rows share no such name. It decides no answer.
     pub fn likely_number(&self, name: Name) -> Option<usize> {
-        self.names.as_ref()?.likely_number(name)
+        self.names.as_ref()?.find(name)
     }
 
     /// The same as `rights_at`, which is found sooner where the likely number of y is given.

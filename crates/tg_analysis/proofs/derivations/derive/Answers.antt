@@ -13,11 +13,10 @@ use Rattle.tg_analysis.proofs.derivations.derive.Goals as goal
 use Rattle.tg_analysis.proofs.derivations.derive.Goals.{then-has+in_ok-last+in-Some, else-has}
 
 -- what no vertex holds can't be shared
-pub returns-then-not-are_held : goal.returns-then-not-are_held
-returns-then-not-are_held c =
+pub returns-then-lacks_holder : goal.returns-then-lacks_holder
+returns-then-lacks_holder c =
     let graph = graph_of c.args.graph.now in
-    let none : c.are_held.result ≡ false = c.if-not-are_held.true in
-    λ can. true≢false (sym (c.are_held.ensures.1 (λ right within. let held = no_other graph right c.args.x c.args.y c.requires.well_formed c.requires.known c.requires.known_too (can.0, can.1, can.2 right within) in (held.0, held.1))) ∙ none)
+    λ can. c.lacks_holder.ensures c.if-lacks_holder.true (λ right within. let held = no_other graph right c.args.x c.args.y c.requires.well_formed c.requires.known c.requires.known_too (can.0, can.1, can.2 right within) in (held.0, held.1))
 
 pub loop-right-init : goal.loop-right-init
 loop-right-init c = record {
