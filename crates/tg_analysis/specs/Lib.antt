@@ -15,3 +15,4 @@ pub mod Gathered
 pub mod Tables
 pub mod ByTarget
 pub mod Holders
+pub mod Positions

@@ -90,7 +90,7 @@ impl Links {
     {
         let mut near = Vec::with_capacity(alloc, count)?;
         for _ in 0..count {
-            near.push(Positions::new(alloc))?;
+            near.push_reserved(Positions::new(alloc));
         }
         Ok(Links { near })
     }
