@@ -4,6 +4,8 @@
 mod answers;
 mod blocks;
 mod by_target;
+#[cfg(test)]
+mod chain_tests;
 mod chains;
 mod derivations;
 mod disjoint_sets;
@@ -22,6 +24,10 @@ mod island_tests;
 mod joining;
 pub mod laws;
 mod links;
+#[cfg(test)]
+mod listed_chains;
+#[cfg(test)]
+mod made_graphs;
 #[cfg(test)]
 mod memory_tests;
 mod met;
