@@ -25,22 +25,12 @@ fn add_answer(digest: &mut Digest, answer: Result<bool, AskFault>) -> Result<(),
     Ok(())
 }
 
-// The names of a rule.
-fn names_of(rule: &Rule) -> (Name, Name) {
-    match *rule {
-        Rule::Take { x, z, .. } => (x, z),
-        Rule::Grant { y, z, .. } => (y, z),
-        Rule::Create { x, n, .. } => (x, n),
-        Rule::Remove { x, y, .. } => (x, y),
-    }
-}
-
 // Takes rules in.
 fn add_rules(digest: &mut Digest, rules: &[Rule]) {
+    digest.add(3);
+    digest.add(rules.len() as u64);
     for rule in rules {
-        let (x, y) = names_of(rule);
-        digest.add_bytes(x.as_bytes());
-        digest.add_bytes(y.as_bytes());
+        digest.add_rule(rule);
     }
 }
 

@@ -1,5 +1,5 @@
 //! The jobs that users wait for, on inputs made from a seed: `JOB SEED`, or `trial SEED` for each job
-//! on small inputs. It prints a digest of all results of a job.
+//! on small inputs. It prints a digest of all results of a job. A word that names no job is an error.
 #![tactic(auto)]
 
 mod asking;
@@ -13,6 +13,7 @@ mod plans;
 mod playing;
 mod racing;
 mod reading;
+mod results;
 mod ruling;
 mod sizes;
 mod steps;
@@ -61,8 +62,23 @@ fn print_trial<R: Threads + Sync + AllocGlobal + Print>(rt: &R, seed: u64) -> io
     Ok(true)
 }
 
+// Does the job of a word. A word that names none is an error.
+fn print_named<R: Threads + Sync + AllocGlobal + Print + Eprint>(
+    rt: &R,
+    word: &str,
+    seed: u64,
+) -> io::Result<bool> {
+    match job_of(word) {
+        Some(job) => print_digest(rt, job, &Size::full(), seed),
+        None => {
+            eprintln!(rt; "workloads: no such job")?;
+            Ok(false)
+        }
+    }
+}
+
 // Does what the words say. It answers whether that was done.
-fn run<R: Threads + Sync + AllocGlobal + Print + Env>(rt: &R) -> io::Result<bool> {
+fn run<R: Threads + Sync + AllocGlobal + Print + Eprint + Env>(rt: &R) -> io::Result<bool> {
     let words: Vec<String> = env::args(rt)?.skip(1).collect(rt.alloc())?;
     let (Some(word), Some(number)) = (words.get(0), words.get(1)) else {
         return Ok(false);
@@ -70,9 +86,9 @@ fn run<R: Threads + Sync + AllocGlobal + Print + Env>(rt: &R) -> io::Result<bool
     let Ok(seed) = number.as_str().parse::<u64>() else {
         return Ok(false);
     };
-    match job_of(word.as_str()) {
-        Some(job) => print_digest(rt, job, &Size::full(), seed),
-        None => print_trial(rt, seed),
+    match word.as_str() {
+        "trial" => print_trial(rt, seed),
+        word => print_named(rt, word, seed),
     }
 }
 

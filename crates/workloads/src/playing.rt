@@ -7,31 +7,31 @@ use crate::sizes::Size;
 use crate::steps::{Steps, step};
 use crate::texts::{graph, names};
 use std::alloc::Global;
-use tg_graph::{Act, Graph, Name, Refusal, Reply};
+use tg_graph::{Act, Graph, Name};
 use tg_store::{Hall, HallFault, HallReply};
-use tg_text::write_graph;
 
-/// The number of a reply.
-pub(crate) fn number_of_reply(reply: &Reply) -> u64 {
-    match *reply {
-        Reply::Done => 1,
-        Reply::Yes => 2,
-        Reply::No => 3,
-        Reply::Refused(Refusal::Full) => 4,
-        Reply::Refused(_) => 5,
+// Takes in why an act was refused.
+fn add_fault(digest: &mut Digest, fault: &HallFault) {
+    match *fault {
+        HallFault::NoSeat => digest.add(41),
+        HallFault::AlreadyOpen => digest.add(42),
+        HallFault::NotOpen => digest.add(43),
+        HallFault::Changed { place, name } => digest.add_place_and_name(44, place, name),
+        HallFault::Crowded { place } => digest.add_place(45, place),
+        HallFault::JournalFull => digest.add(46),
+        HallFault::Memory => digest.add(47),
     }
 }
 
-// The number of an answer.
-fn number_of(answer: &HallReply) -> u64 {
+// Takes the answer to an act in.
+fn add_answer(digest: &mut Digest, answer: &HallReply) {
     match answer {
-        HallReply::Done => 10,
-        HallReply::Nothing => 11,
-        HallReply::Said(reply) => number_of_reply(reply),
-        HallReply::Learned(place) => 1_000 + *place as u64 % 4_096,
-        HallReply::Put(place) => 10_000 + *place as u64 % 4_096,
-        HallReply::Refused(HallFault::Changed { place, .. }) => 20_000 + *place as u64 % 4_096,
-        HallReply::Refused(_) => 12,
+        HallReply::Done => digest.add(31),
+        HallReply::Learned(place) => digest.add_place(32, *place),
+        HallReply::Nothing => digest.add(33),
+        HallReply::Said(reply) => digest.add_reply(reply),
+        HallReply::Put(place) => digest.add_place(34, *place),
+        HallReply::Refused(fault) => add_fault(digest, fault),
     }
 }
 
@@ -56,7 +56,7 @@ fn play_session(
 ) {
     for _ in 0..play.length {
         let step = step(play.steps, names, chance);
-        digest.add(number_of(&hall.act(seat, &Act::Stage(step))));
+        add_answer(digest, &hall.act(seat, &Act::Stage(step)));
     }
 }
 
@@ -71,10 +71,10 @@ fn play_round(
     for _ in 0..play.seats {
         let seat = u32::try_from(chance.below(play.seats as usize)).unwrap_or(0);
         let seat = seat.saturating_add(1);
-        digest.add(number_of(&hall.act(seat, &Act::Begin)));
+        add_answer(digest, &hall.act(seat, &Act::Begin));
         play_session(hall, seat, play, names, chance, digest);
         if chance.below(8) > 0 {
-            digest.add(number_of(&hall.act(seat, &Act::Commit)));
+            add_answer(digest, &hall.act(seat, &Act::Commit));
         }
     }
 }
@@ -96,8 +96,7 @@ fn play_on(
         play_round(&mut hall, play, names, chance, digest);
     }
     let last = hall.last()?;
-    let written = write_graph(alloc, &last)?;
-    digest.add_bytes(&written);
+    digest.add_graph(alloc, &last)?;
     Ok(())
 }
 

@@ -6,14 +6,12 @@ use crate::chance::Chance;
 use crate::digest::Digest;
 use crate::fault::Fault;
 use crate::plans::{Labels, Plan};
-use crate::playing::number_of_reply;
 use crate::sizes::Size;
 use crate::steps::{Steps, step};
 use crate::texts::{graph, names};
 use std::alloc::{AllocError, Global};
 use tg_graph::{Graph, Name};
-use tg_store::{Begun, Committed, Seat, Session, Store};
-use tg_text::write_graph;
+use tg_store::{BeginFault, Begun, CommitFault, Committed, Seat, Session, Store};
 
 // Stages the steps of a session.
 fn stage_all(
@@ -27,11 +25,29 @@ fn stage_all(
     for _ in 0..3 {
         let step = step(Steps::Changes, names, chance);
         match session.step(step) {
-            Ok(reply) => digest.add(number_of_reply(&reply)),
+            Ok(reply) => digest.add_reply(&reply),
             Err(AllocError) => return Err(AllocError),
         }
     }
     Ok(())
+}
+
+// Takes in why no session was opened.
+fn add_begin_fault(digest: &mut Digest, fault: &BeginFault) {
+    match *fault {
+        BeginFault::Foreign(place) => digest.add_place(51, place),
+        BeginFault::Memory => digest.add(52),
+    }
+}
+
+// Takes in why a session was not put.
+fn add_commit_fault(digest: &mut Digest, fault: &CommitFault) {
+    match *fault {
+        CommitFault::Changed { place, name } => digest.add_place_and_name(61, place, name),
+        CommitFault::Crowded { place } => digest.add_place(62, place),
+        CommitFault::JournalFull => digest.add(63),
+        CommitFault::Foreign(place) => digest.add_place(64, place),
+    }
 }
 
 // Commits a session. Its seat comes back.
@@ -41,14 +57,17 @@ fn commit(store: &Store, session: Session, digest: &mut Digest) -> Seat
 {
     match store.commit(session) {
         Committed::Done(seat, receipt) => {
-            digest.add(receipt.place as u64);
+            digest.add_place(65, receipt.place);
             seat
         }
-        Committed::Refused(seat, _) => {
-            digest.add(7);
+        Committed::Refused(seat, fault) => {
+            add_commit_fault(digest, &fault);
             seat
         }
-        Committed::Again(session) => session.abort(),
+        Committed::Again(session) => {
+            digest.add(66);
+            session.abort()
+        }
     }
 }
 
@@ -69,7 +88,10 @@ fn play_turn(
             stage_all(&mut session, names, chance, digest)?;
             Ok(commit(store, session, digest))
         }
-        Begun::Refused(seat, _) => Ok(seat),
+        Begun::Refused(seat, fault) => {
+            add_begin_fault(digest, &fault);
+            Ok(seat)
+        }
     }
 }
 
@@ -93,6 +115,14 @@ fn play_round(
     Ok(played)
 }
 
+// Takes the graph of each seat in.
+fn add_graphs(alloc: Global, seats: &[Seat], digest: &mut Digest) -> Result<(), AllocError> {
+    for seat in seats {
+        digest.add_graph(alloc, seat.graph())?;
+    }
+    Ok(())
+}
+
 // Has the seats play by turns, and takes their graphs in.
 fn play_all(
     alloc: Global,
@@ -109,10 +139,7 @@ fn play_all(
     for _ in 0..rounds {
         seats = play_round(alloc, store, seats, names, chance, digest)?;
     }
-    if let Some(seat) = seats.last() {
-        let written = write_graph(alloc, seat.graph())?;
-        digest.add_bytes(&written);
-    }
+    add_graphs(alloc, &seats, digest)?;
     Ok(())
 }
 

@@ -6,7 +6,7 @@ use crate::plans::{Labels, Order, Plan, Spelling};
 use crate::sizes::Size;
 use crate::texts::{graph_text, names};
 use std::alloc::Global;
-use tg_text::{read_graph, write_graph};
+use tg_text::read_graph;
 
 // Reads a text, and writes the graph.
 fn read_and_write(
@@ -20,8 +20,7 @@ fn read_and_write(
     let Ok(graph) = read_graph(alloc, &text) else {
         return Err(Fault::Refused);
     };
-    let written = write_graph(alloc, &graph)?;
-    digest.add_bytes(&written);
+    digest.add_graph(alloc, &graph)?;
     Ok(())
 }
 

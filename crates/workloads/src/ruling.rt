@@ -7,7 +7,7 @@ use crate::sizes::Size;
 use crate::texts::{graph, names, words};
 use std::alloc::{AllocError, Global};
 use tg_graph::{Graph, Name, Reply, RuleFault};
-use tg_text::{RuleLine, RuleSink, append_number, append_reply, read_rules_into, write_graph};
+use tg_text::{RuleLine, RuleSink, append_number, append_reply, read_rules_into};
 
 // A graph, and the replies to the rules that were carried out on it.
 #[derive(Drop)]
@@ -167,9 +167,8 @@ fn carry_out(
     let Ok(ruled) = read_rules_into(Ruled { graph, replies }, &text) else {
         return Err(Fault::Refused);
     };
-    let written = write_graph(alloc, &ruled.graph)?;
     digest.add_bytes(&ruled.replies);
-    digest.add_bytes(&written);
+    digest.add_graph(alloc, &ruled.graph)?;
     Ok(())
 }
 

@@ -10,11 +10,12 @@ use std::thread::Threads;
 use tg_analysis::{OpenGate, PairTable, pair_table};
 use tg_graph::{Graph, Right};
 
-// The digit of a cell.
+// The digit of a cell, and a dash for none.
 fn digit(table: &PairTable, i: usize, j: usize) -> u8 {
     match table.cell(i, j) {
         Some(true) => b'1',
-        Some(false) | None => b'0',
+        Some(false) => b'0',
+        None => b'-',
     }
 }
 
