@@ -12,6 +12,12 @@ use std::hash::{Hash, Hasher};
 use std::marker::Model;
 use std::simd::prelude::*;
 
+// The factors by which the halves of a name spread, found by trial: with them, names that differ in digits or
+// in letters, wherever these stand, fall on slots about as evenly as random names or more so.
+const FRONT_FACTOR: u64 = 0x5ead_b7ef_709d_1695;
+
+const BACK_FACTOR: u64 = 0x84c4_f471_416e_79f7;
+
 /// Why bytes are no name. Where several faults are there, the first of this list is meant.
 #[derive(Clone, Copy, PartialEq, Eq, Debug)]
 pub enum NameFault {
@@ -202,6 +208,13 @@ fn write_decimal(text: &mut [u8], number: u32) -> usize
     start
 }
 
+// The product of two numbers, its high half laid on the low one, so that each bit hangs on all of both.
+#[inline(always)]
+fn folded(half: u64, factor: u64) -> u64 {
+    let product = u128::from(half).wrapping_mul(u128::from(factor));
+    (product >> 64) as u64 ^ ((product << 64) >> 64) as u64
+}
+
 impl Name {
     /// The name that the bytes are, or the first fault for which they are none.
     pub fn parse(bytes: &[u8]) -> Result<Name, NameFault>
@@ -269,11 +282,12 @@ impl Name {
         u128::from_be_bytes(self.padded)
     }
 
-    /// A number of 32 bits in which names mostly differ.
-    pub(crate) fn spread(&self) -> u32 {
+    /// A number in which names mostly differ. Each of its 64 bits hangs on every byte of the name.
+    pub(crate) fn spread(&self) -> u64 {
         let number = self.number();
-        let folded = (number >> 64) as u64 ^ ((number << 64) >> 64) as u64;
-        (folded.wrapping_mul(0x9e37_79b9_7f4a_7c15) >> 32) as u32
+        let front = folded((number >> 64) as u64, FRONT_FACTOR);
+        let back = folded(((number << 64) >> 64) as u64, BACK_FACTOR);
+        front.wrapping_add(back)
     }
 
     /// The bytes of the name.

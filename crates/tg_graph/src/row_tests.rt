@@ -267,3 +267,88 @@ fn one_name_of_a_hundred_at_most_is_not_at_its_slot(rt: HostRuntime) -> Result<(
     assert!(rt; missed(rt.alloc(), &short)? <= 40);
     Ok(())
 }
+
+// Of the names that begin so and end in each of the numbers below one, at most one of a hundred is not at its
+// slot.
+fn numbered_are_found(
+    rt: &impl Abort,
+    alloc: Global,
+    beginning: &[u8],
+    end: u32,
+) -> Result<(), AllocError> {
+    let mut names = Vec::new(alloc);
+    for number in 0..end {
+        let mut text = Vec::new(alloc);
+        text.extend_from_slice(beginning)?;
+        text.extend_from_slice(Name::helper(number).as_bytes())?;
+        names.push(name(rt, text.as_slice()))?;
+    }
+    assert!(rt; missed(alloc, &names)? <= names.len() / 100);
+    Ok(())
+}
+
+#[test]
+fn names_that_end_in_one_to_four_digits_are_at_their_slots(rt: HostRuntime) -> Result<(), Fail> {
+    for beginning in [
+        b"service".as_slice(),
+        b"project".as_slice(),
+        b"a".as_slice(),
+    ] {
+        for end in [10, 100, 1000, 4096] {
+            numbered_are_found(&rt, rt.alloc(), beginning, end)?;
+        }
+    }
+    Ok(())
+}
+
+// Of so many names of one letter, each the one a step behind the last, all are at their slots.
+fn letters_are_found(
+    rt: &impl Abort,
+    alloc: Global,
+    count: u8,
+    step: u8,
+) -> Result<(), AllocError> {
+    let mut names = Vec::new(alloc);
+    for place in 0..count {
+        names.push(name(rt, &[b'a' + place.wrapping_mul(step) % 26]))?;
+    }
+    assert!(rt; missed(alloc, &names)? == 0);
+    Ok(())
+}
+
+#[test]
+fn names_of_one_letter_are_at_their_slots(rt: HostRuntime) -> Result<(), Fail> {
+    for (count, step) in [(26, 1), (10, 1), (13, 2), (9, 3)] {
+        letters_are_found(&rt, rt.alloc(), count, step)?;
+    }
+    Ok(())
+}
+
+// Of the first names of two letters behind a beginning, at most one of a hundred is not at its slot.
+fn pairs_are_found(
+    rt: &impl Abort,
+    alloc: Global,
+    beginning: &[u8],
+    count: u32,
+) -> Result<(), AllocError> {
+    let mut names = Vec::new(alloc);
+    for number in 0..count {
+        let mut text = Vec::new(alloc);
+        text.extend_from_slice(beginning)?;
+        text.push(b'a' + (number / 26 % 26) as u8)?;
+        text.push(b'a' + (number % 26) as u8)?;
+        names.push(name(rt, text.as_slice()))?;
+    }
+    assert!(rt; missed(alloc, &names)? <= names.len() / 100);
+    Ok(())
+}
+
+#[test]
+fn names_that_end_in_two_letters_are_at_their_slots(rt: HostRuntime) -> Result<(), Fail> {
+    for beginning in [b"".as_slice(), b"project_".as_slice()] {
+        for count in [100, 400, 676] {
+            pairs_are_found(&rt, rt.alloc(), beginning, count)?;
+        }
+    }
+    Ok(())
+}

@@ -16,8 +16,9 @@ const SLOTS_A_NAME: usize = 4;
 
 const SLOTS_TOGETHER: usize = 4;
 
-// A position takes the low bits of a slot, and a mark of the name the eight bits above them. A name whose
-// position needs more is found by its order alone.
+// A position takes the low bits of a slot, and a mark of the name the eight bits above them. Of a position
+// that needs more the low bits stand there, which are another name's, so that each name from position 2^24 on
+// is found by the order of the names alone, after the slots were looked at in vain.
 const POSITION_BITS: u32 = 24;
 
 // The bits of a position.
@@ -37,20 +38,21 @@ impl Slot {
         Slot { bits: 0 }
     }
 
-    // The mark of a name that spreads to this, which is never 0. Slots are told by the high bits, and the
-    // lowest hang on few bytes of a name, so that it is taken between.
-    fn mark(spread: u32) -> u32 {
-        ((spread >> 8) | 1) & 0xff
+    // The mark of a name that spreads to this, one of 1 to 255. It is taken from the low half, as slots are told
+    // by the high one alone: so names at one slot differ in it as others do, however many there are.
+    fn mark(spread: u64) -> u32 {
+        let low = spread & 0xffff_ffff;
+        (low.wrapping_mul(255) >> 32) as u32 + 1
     }
 
-    fn new(spread: u32, position: u32) -> Slot {
+    fn new(spread: u64, position: u32) -> Slot {
         Slot {
             bits: Slot::mark(spread) << POSITION_BITS | (position & POSITION_MASK),
         }
     }
 
     // Whether a name that spreads to this may stand there.
-    fn may_have(self, spread: u32) -> bool {
+    fn may_have(self, spread: u64) -> bool {
         self.bits >> POSITION_BITS == Slot::mark(spread)
     }
 
@@ -154,14 +156,14 @@ fn numbers_by_position(alloc: Global, positions: &[u32]) -> Result<Vec<u32>, All
     Ok(numbers)
 }
 
-// The slot among so many of a name that spreads to this, if there are any.
-fn slot_of(spread: u32, slots: usize) -> usize {
-    (u64::from(spread).wrapping_mul(slots as u64) >> 32) as usize
+// The slot among so many of a name that spreads to this, if there are any. The high half tells it.
+fn slot_of(spread: u64, slots: usize) -> usize {
+    ((spread >> 32).wrapping_mul(slots as u64) >> 32) as usize
 }
 
 // Where a name that spreads to this is to stand: at its slot, or else at the first of those beside it where
 // none stands.
-fn slot_for(slots: &[Slot], spread: u32) -> usize {
+fn slot_for(slots: &[Slot], spread: u64) -> usize {
     let first = slot_of(spread, slots.len());
     for beside in 0..SLOTS_TOGETHER {
         match slots.get(first ^ beside) {
