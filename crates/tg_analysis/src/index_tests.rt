@@ -101,3 +101,32 @@ fn an_index_knows_no_stranger(rt: HostRuntime) -> Result<(), Fail> {
     assert!(rt; index.can_share(rt.alloc(), &g, Right::T, stranger, a) == unknown);
     Ok(())
 }
+
+// Of each two vertices, four times over, whether an index of islands alone says the same, and has listed no
+// edges.
+fn assert_alone_agrees(rt: &impl Abort, alloc: Global, graph: &Graph, right: Right) {
+    let mut index = SharingIndex::of_islands_alone();
+    for pair in 0..4 * graph.len() * graph.len() {
+        let (i, j) = (pair / graph.len() % graph.len(), pair % graph.len());
+        if let (Some(x), Some(y)) = (graph.name_at(i), graph.name_at(j)) {
+            let answer = index.can_share(alloc, graph, right, x, y);
+            assert!(rt; answer == shares(alloc, graph, right, x, y));
+        }
+    }
+    assert!(rt; index.has_found());
+    assert!(rt; !index.has_listed());
+}
+
+#[test]
+fn an_index_of_islands_alone_lists_no_edges(rt: HostRuntime) -> Result<(), Fail> {
+    let g = graph(
+        &rt,
+        rt.alloc(),
+        "a b c d e f g h",
+        "a b t, b c g, c d r, d e tg, e a w, f a re, d f r, b f e, g h r, h g t",
+    );
+    for right in &Right::ALL {
+        assert_alone_agrees(&rt, rt.alloc(), &g, *right);
+    }
+    Ok(())
+}

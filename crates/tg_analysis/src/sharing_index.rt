@@ -32,11 +32,14 @@ const PASS: usize = 64;
 /// at half as many rows as there are rows and edges, the next question lists the edges, which takes 16
 /// bytes an edge and 4 a vertex; a question then goes through the edges to one vertex. So the questions
 /// before have paid for each of the two. Where memory for them is refused, questions are answered as
-/// before, and they are due again as late as the first time.
+/// before, and they are due again as late as the first time. An index of islands alone lists no edges,
+/// however much it is asked.
 #[derive(Drop)]
 pub struct SharingIndex {
     islands: Option<Islands>,
     edges: Option<EdgesByTarget>,
+    // Whether edges may be listed. It decides no answer.
+    lists_edges: bool,
     // How many edges there are, once they were counted; how much work searches have done, and how many rows
     // were looked at since. They decide no answer.
     edge_count: Option<usize>,
@@ -86,9 +89,20 @@ impl SharingIndex {
         SharingIndex {
             islands: None,
             edges: None,
+            lists_edges: true,
             edge_count: None,
             work: 0,
             looks: 0,
+        }
+    }
+
+    /// The same, which finds islands alone and lists no edges: it never keeps more than 8 bytes a vertex.
+    pub fn of_islands_alone() -> SharingIndex
+        ensures { result ≡ unasked }
+    {
+        SharingIndex {
+            lists_edges: false,
+            ..SharingIndex::new()
         }
     }
 
@@ -169,12 +183,15 @@ impl SharingIndex {
         }
     }
 
-    // Lists the edges, if that is due. Where memory is refused, they are due again after as many looks.
+    // Lists the edges, if they may be listed and that is due. Where memory is refused, they are due again after as many looks.
     fn list_edges(&mut self, alloc: Global, graph: &Graph)
         requires { IsIndexOf graph.now self.old }
         ensures index { IsIndexOf graph.now self.new }
         ensures islands { self.new.numbers ≡ self.old.numbers }
     {
+        if !self.lists_edges {
+            return;
+        }
         if self.edges.is_some() || !self.is_paid(graph, self.looks) {
             return;
         }
