@@ -33,15 +33,58 @@ fn joined(graph: &mut Graph, x: Name, y: Name, rights: Rights) -> Result<(), Edg
     }
 }
 
-/// _0 has g over _1, and _1 has r over _2.
-pub(crate) fn three(alloc: Global) -> Result<Graph, Fail> {
+// The graph with so many vertices, _0, _1 and so on, and no edge.
+fn numbered(alloc: Global, count: u32) -> Result<Graph, Fail> {
     let mut graph = Graph::new(alloc);
-    for number in 0..3 {
+    for number in 0..count {
         added(&mut graph, Name::helper(number))?;
     }
+    Ok(graph)
+}
+
+/// _0 has g over _1, and _1 has r over _2.
+pub(crate) fn three(alloc: Global) -> Result<Graph, Fail> {
+    let mut graph = numbered(alloc, 3)?;
     let (x, y, z) = (Name::helper(0), Name::helper(1), Name::helper(2));
     joined(&mut graph, x, y, Rights::of(Right::G))?;
     joined(&mut graph, y, z, Rights::of(Right::R))?;
+    Ok(graph)
+}
+
+// How many vertices `hub` has.
+const HUB_SIZE: u32 = 11;
+
+// The hub _1 has more neighbours than stand in a value: _2 to _10 have t over it. Those of _0 come last:
+// _10 has t over _0 as well. _3 has r over _2.
+fn hub(alloc: Global) -> Result<Graph, Fail> {
+    let mut graph = numbered(alloc, HUB_SIZE)?;
+    let take = Rights::of(Right::T);
+    for number in 2..HUB_SIZE {
+        joined(&mut graph, Name::helper(number), Name::helper(1), take)?;
+    }
+    joined(&mut graph, Name::helper(10), Name::helper(0), take)?;
+    joined(
+        &mut graph,
+        Name::helper(3),
+        Name::helper(2),
+        Rights::of(Right::R),
+    )?;
+    Ok(graph)
+}
+
+// Adds w from a vertex over each to which it has no edge.
+fn fill_row(graph: &mut Graph, x: Name) {
+    for number in 0..HUB_SIZE {
+        let _ = joined(graph, x, Name::helper(number), Rights::of(Right::W));
+    }
+}
+
+// The same with more than four edges a vertex.
+fn wide_hub(alloc: Global) -> Result<Graph, Fail> {
+    let mut graph = hub(alloc)?;
+    for number in 0..HUB_SIZE {
+        fill_row(&mut graph, Name::helper(number));
+    }
     Ok(graph)
 }
 
@@ -57,6 +100,14 @@ fn refused_islands(rt: HostRuntime) -> Result<(), Fail> {
     let graph = three(rt.alloc())?;
     let islands = islands_again(rt.alloc(), &graph)?;
     assert_numbers(&rt, &islands, 2, &[0, 0, 1]);
+    Ok(())
+}
+
+#[test]
+fn refused_islands_of_a_hub(rt: HostRuntime) -> Result<(), Fail> {
+    let graph = hub(rt.alloc())?;
+    let islands = islands_again(rt.alloc(), &graph)?;
+    assert_numbers(&rt, &islands, 1, &[0; 11]);
     Ok(())
 }
 
@@ -78,15 +129,25 @@ fn shared_all(alloc: Global, graph: &Graph, rights: Rights) -> Result<bool, AskF
     }
 }
 
-// By how many rules.
-fn rule_count(alloc: Global, graph: &Graph, right: Right) -> Result<Option<usize>, AskFault> {
-    let rules = derived(alloc, graph, right, Name::helper(0), Name::helper(2))?;
+// By how many rules x comes to have it.
+fn rule_count(
+    alloc: Global,
+    graph: &Graph,
+    right: Right,
+    x: Name,
+) -> Result<Option<usize>, AskFault> {
+    let rules = derived(alloc, graph, right, x, Name::helper(2))?;
     Ok(rules.map(|rules| rules.len()))
 }
 
-fn rule_count_again(alloc: Global, graph: &Graph, right: Right) -> Result<Option<usize>, AskFault> {
-    match rule_count(alloc, graph, right) {
-        Err(AskFault::Memory) => rule_count(alloc, graph, right),
+fn rule_count_again(
+    alloc: Global,
+    graph: &Graph,
+    right: Right,
+    x: Name,
+) -> Result<Option<usize>, AskFault> {
+    match rule_count(alloc, graph, right, x) {
+        Err(AskFault::Memory) => rule_count(alloc, graph, right, x),
         outcome => outcome,
     }
 }
@@ -96,7 +157,7 @@ fn refused_questions(rt: HostRuntime) -> Result<(), Fail> {
     let graph = three(rt.alloc())?;
     assert!(rt; shared(rt.alloc(), &graph, Right::R) == Ok(true));
     assert!(rt; shared_all(rt.alloc(), &graph, Rights::READ) == Ok(true));
-    assert!(rt; rule_count_again(rt.alloc(), &graph, Right::R) == Ok(Some(4)));
+    assert!(rt; rule_count_again(rt.alloc(), &graph, Right::R, Name::helper(0)) == Ok(Some(4)));
     Ok(())
 }
 
@@ -106,7 +167,36 @@ fn refused_questions_with_a_no(rt: HostRuntime) -> Result<(), Fail> {
     let graph = three(rt.alloc())?;
     assert!(rt; shared(rt.alloc(), &graph, Right::W) == Ok(false));
     assert!(rt; shared_all(rt.alloc(), &graph, Rights::READ.union(Rights::WRITE)) == Ok(false));
-    assert!(rt; rule_count_again(rt.alloc(), &graph, Right::W) == Ok(None));
+    assert!(rt; rule_count_again(rt.alloc(), &graph, Right::W, Name::helper(0)) == Ok(None));
+    Ok(())
+}
+
+#[test]
+fn refused_questions_at_a_hub(rt: HostRuntime) -> Result<(), Fail> {
+    let graph = hub(rt.alloc())?;
+    assert!(rt; shared(rt.alloc(), &graph, Right::R) == Ok(true));
+    assert!(rt; shared(rt.alloc(), &graph, Right::W) == Ok(false));
+    assert!(rt; shared_all(rt.alloc(), &graph, Rights::READ) == Ok(true));
+    Ok(())
+}
+
+// The hub comes to have it by four rules from _3, which has t over the hub, _10 by one rule more, and _0,
+// over which _10 has t, by four more.
+#[test]
+fn refused_derivations_at_a_hub(rt: HostRuntime) -> Result<(), Fail> {
+    let graph = hub(rt.alloc())?;
+    let x = Name::helper(0);
+    assert!(rt; rule_count_again(rt.alloc(), &graph, Right::R, x) == Ok(Some(9)));
+    assert!(rt; rule_count_again(rt.alloc(), &graph, Right::W, x) == Ok(None));
+    Ok(())
+}
+
+// The rows show the hub's neighbours and those of _10; for those of _2 the links are listed.
+#[test]
+fn refused_a_late_list(rt: HostRuntime) -> Result<(), Fail> {
+    let graph = wide_hub(rt.alloc())?;
+    let x = Name::helper(1);
+    assert!(rt; rule_count_again(rt.alloc(), &graph, Right::R, x) == Ok(Some(4)));
     Ok(())
 }
 
@@ -140,9 +230,25 @@ fn refused_an_index(rt: HostRuntime) -> Result<(), Fail> {
     Ok(())
 }
 
-// By how many rules _0 comes to have all rights of a set over _1.
-fn set_count(alloc: Global, graph: &Graph, rights: Rights) -> Result<Option<usize>, AskFault> {
-    let rules = all_derived(alloc, graph, rights, Name::helper(0), Name::helper(1))?;
+// The same questions at a hub.
+#[test]
+fn refused_an_index_of_a_hub(rt: HostRuntime) -> Result<(), Fail> {
+    let graph = hub(rt.alloc())?;
+    let mut index = SharingIndex::new();
+    assert!(rt; indexed(rt.alloc(), &mut index, &graph, Right::W) == Ok(false));
+    assert!(rt; indexed(rt.alloc(), &mut index, &graph, Right::R) == Ok(true));
+    assert!(rt; indexed(rt.alloc(), &mut index, &graph, Right::W) == Ok(false));
+    Ok(())
+}
+
+// By how many rules _0 comes to have all rights of a set over y.
+fn set_count(
+    alloc: Global,
+    graph: &Graph,
+    rights: Rights,
+    y: Name,
+) -> Result<Option<usize>, AskFault> {
+    let rules = all_derived(alloc, graph, rights, Name::helper(0), y)?;
     Ok(rules.map(|rules| rules.len()))
 }
 
@@ -150,9 +256,10 @@ fn set_count_again(
     alloc: Global,
     graph: &Graph,
     rights: Rights,
+    y: Name,
 ) -> Result<Option<usize>, AskFault> {
-    match set_count(alloc, graph, rights) {
-        Err(AskFault::Memory) => set_count(alloc, graph, rights),
+    match set_count(alloc, graph, rights, y) {
+        Err(AskFault::Memory) => set_count(alloc, graph, rights, y),
         outcome => outcome,
     }
 }
@@ -165,9 +272,17 @@ fn refused_sets(rt: HostRuntime) -> Result<(), Fail> {
     let both = Rights::of(Right::R).union(Rights::of(Right::W));
     joined(&mut graph, y, y, both)?;
     let all = both.union(Rights::of(Right::G));
-    assert!(rt; set_count_again(rt.alloc(), &graph, all) == Ok(Some(8)));
+    assert!(rt; set_count_again(rt.alloc(), &graph, all, y) == Ok(Some(8)));
     let more = all.union(Rights::of(Right::E));
-    assert!(rt; set_count_again(rt.alloc(), &graph, more) == Ok(None));
+    assert!(rt; set_count_again(rt.alloc(), &graph, more, y) == Ok(None));
+    Ok(())
+}
+
+#[test]
+fn refused_sets_at_a_hub(rt: HostRuntime) -> Result<(), Fail> {
+    let graph = hub(rt.alloc())?;
+    let count = set_count_again(rt.alloc(), &graph, Rights::READ, Name::helper(2));
+    assert!(rt; count == Ok(Some(9)));
     Ok(())
 }
 
@@ -188,5 +303,16 @@ fn refused_table(rt: HostRuntime) -> Result<(), Fail> {
     let graph = three(rt.alloc())?;
     let table = table_again(&rt, rt.alloc(), &graph)?;
     assert_table(&rt, &table, &[b"001", b"001", b"000"]);
+    Ok(())
+}
+
+// The row of each vertex in the table of a hub.
+const HUB_ROW: &[u8] = b"00100000000";
+
+#[test]
+fn refused_table_of_a_hub(rt: HostRuntime) -> Result<(), Fail> {
+    let graph = hub(rt.alloc())?;
+    let table = table_again(&rt, rt.alloc(), &graph)?;
+    assert_table(&rt, &table, &[HUB_ROW; 11]);
     Ok(())
 }
