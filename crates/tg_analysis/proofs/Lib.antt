@@ -37,3 +37,4 @@ pub mod ByTarget
 pub mod Blocked
 pub mod Spreads
 pub mod LookedUp
+pub mod NearRows

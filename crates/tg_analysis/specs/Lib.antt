@@ -15,4 +15,5 @@ pub mod Gathered
 pub mod Tables
 pub mod ByTarget
 pub mod Holders
+pub mod NearRows
 pub mod Positions

@@ -109,8 +109,7 @@ fn derive(
         (λ rules. IsDerivationOfAll (graph_of graph.now) rights x y rules.items)) }
 {
     let mut search = Search::from(alloc, graph, x)?;
-    // a look at a short row takes no longer than a link that was listed
-    if lacks_holder(graph, rights, y, search.link_count()) {
+    if lacks_holder(graph, rights, y, search.looks_paid()) {
         return Ok(None);
     }
     let mut rules = Vec::new(alloc);

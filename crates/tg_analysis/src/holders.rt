@@ -24,13 +24,22 @@ const SHORT_ROW: usize = 8;
 // A look at a longer row, or for a name that rows do not share, takes as long as so many at short rows.
 const LONG_LOOK: usize = 8;
 
-// What a look at the row of a position takes, in looks at short rows.
-fn cost_of_look(graph: &Graph, position: usize, likely: Option<usize>) -> usize {
-    if likely.is_some() && graph.row_len(position) <= SHORT_ROW {
+// What a look at the row of a position takes, in looks at short rows, for a name whose number is known or not.
+fn cost_of_look(graph: &Graph, position: usize, is_numbered: bool) -> usize {
+    if is_numbered && graph.row_len(position) <= SHORT_ROW {
         1
     } else {
         LONG_LOOK
     }
+}
+
+/// What a look at each row takes, in looks at short rows, where the number of the name is known.
+pub(crate) fn cost_of_looks(graph: &Graph) -> usize {
+    let mut cost: usize = 0;
+    for position in 0..graph.len() {
+        cost = cost.saturating_add(cost_of_look(graph, position, true));
+    }
+    cost
 }
 
 /// Whether some right of the set was seen to be held over y by no vertex: then no list of rules gives it
@@ -47,7 +56,7 @@ pub(crate) fn lacks_holder(graph: &Graph, rights: Rights, y: Name, most: usize) 
     let mut missing = named(rights);
     let mut taken: usize = 0;
     for position in 0..count {
-        taken = taken.saturating_add(cost_of_look(graph, position, likely));
+        taken = taken.saturating_add(cost_of_look(graph, position, likely.is_some()));
         if taken > most || missing.is_empty() {
             return false;
         }

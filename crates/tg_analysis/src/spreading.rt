@@ -23,10 +23,6 @@ use bitflags::Flags;
 use std::alloc::{AllocError, Global};
 use tg_graph::{Graph, Name, OpenRow, Rights};
 
-// Before rows are looked at for a holder, half as many positions are taken up in one go: what is answered
-// near x needs no more, and to take them up takes longer than as many looks at short rows.
-const FIRST_STEPS: usize = 2;
-
 /// The question whether x can come to have each right of a set over y.
 #[derive(Clone, Copy)]
 pub struct Asked {
@@ -151,12 +147,12 @@ impl Spread {
         Ok(())
     }
 
-    // Goes on for so many steps, unless no right is missing or nothing is left to follow before.
+    // Goes on until it has done so much work, unless no right is missing or nothing is left to follow before.
     fn run_for(
         &mut self,
         graph: &Graph,
         asked: &Asked,
-        steps: usize,
+        most: usize,
         work: &mut usize,
     ) -> Result<(), AllocError>
         requires graph { IsGraph graph.now }
@@ -167,8 +163,9 @@ impl Spread {
         ensures spread { OnOk result (IsTrue (is_empty_set self.new.missing)
             ⊎ GoesOn graph.now asked.now self.new.missing self.old self.new) }
     {
-        for _ in 0..steps {
-            if !self.step(graph, asked, work)? {
+        let due = work.saturating_add(most);
+        for _ in 0..graph.len() {
+            if *work >= due || !self.step(graph, asked, work)? {
                 return Ok(());
             }
         }
@@ -245,8 +242,9 @@ impl Spread {
         lacks_holder(graph, self.missing, asked.y, graph.len())
     }
 
-    // Goes on until no right is missing, or nothing is left to follow; where that takes more steps than a
-    // few, only if it is not hopeless. It says whether it is.
+    // Goes on until no right is missing, or nothing is left to follow; where that takes more work than there
+    // are vertices, which is as much as looks at as many short rows take, only if it is not hopeless. It says
+    // whether it is.
     fn go_on(
         &mut self,
         graph: &Graph,
@@ -264,7 +262,7 @@ impl Spread {
             (IsTrue (is_empty_set self.new.missing)
             ⊎ RunsOut graph.now asked.now self.new.missing self.old self.new)) }
     {
-        self.run_for(graph, asked, graph.len() / FIRST_STEPS, work)?;
+        self.run_for(graph, asked, graph.len(), work)?;
         if self.missing.is_empty() {
             return Ok(false);
         }
