@@ -14,3 +14,4 @@ pub mod Weighed
 pub mod RunningSeats
 pub mod RunningSessions
 pub mod Agreeing
+pub mod GivingUp

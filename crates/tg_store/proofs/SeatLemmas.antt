@@ -23,7 +23,7 @@ use Rattle.tg_store.specs.Drafted.{drafted, GainsRows, IsDraftOf}
 use Rattle.tg_store.specs.declared.knowing.Known.{Known}
 use Rattle.tg_store.specs.declared.knowing.Known.TheVariants.{OfBase, OfWhole}
 use Rattle.tg_store.specs.Knowing.{IsKnown, knows_any, forgotten}
-use Rattle.tg_store.specs.Seats.{IsSessionOn, Rests}
+use Rattle.tg_store.specs.Seats.{seen_seat, IsSessionOn, IsConsistent, Rests, AreCounted, unknowing, given_up, KnowsNothing}
 use Rattle.tg_store.proofs.Ordered.{after_steps-push, AreAnswers-push, replay-append, replay-next, replay-push}
 use Rattle.tg_store.proofs.Commuting.{rows-more, draft-clear, answers-clear}
 
@@ -49,17 +49,17 @@ session-push base o p a on e drawn told named known = record {
 -- what is still known where the base is another
 pub known-on : (base next : Entries) (draft : Changes) (known : Known) → IsKnown base draft known → IsKnown next draft (forgotten known)
 known-on base next draft (OfBase index) is = (is.0, record { islands = tt; listed = tt })
-known-on base next draft (OfWhole whole) is = tt
+known-on base next draft (OfWhole index) is = record { islands = tt; listed = tt }
 
 -- nothing that is still known then takes memory
 pub forgotten-none : (known : Known) → knows_any (forgotten known) ≡ false
 forgotten-none (OfBase index) = refl
-forgotten-none (OfWhole whole) = refl
+forgotten-none (OfWhole index) = refl
 
 -- to forget twice is to forget once
-forgotten-twice : (known : Known) → forgotten known ≡ forgotten (forgotten known)
+pub forgotten-twice : (known : Known) → forgotten known ≡ forgotten (forgotten known)
 forgotten-twice (OfBase index) = refl
-forgotten-twice (OfWhole whole) = refl
+forgotten-twice (OfWhole index) = refl
 
 -- a session that rests on a record as well
 pub session-clear : (base : Entries) (committed : List Answered) (theirs : Changes) (o : OpenSession) → IsDraftOf base committed theirs → IsSessionOn base o → IsClear (graph_of base) committed (Some o.kept.items) → IsDistinct bytes_eq (keys_of base) → o.known ≡ forgotten o.known → IsSessionOn (laid_over base theirs) o
@@ -69,10 +69,6 @@ session-clear base committed theirs o le on clear distinct unknown = record {
   named = on.named;
   known = subst (IsKnown (laid_over base theirs) o.draft) (sym unknown) (known-on base (laid_over base theirs) o.draft o.known on.known);
 }
-
--- a session that knows what is still known where the base is another
-abbrev pub unknowing : OpenSession → OpenSession
-unknowing o = record { draft = o.draft; kept = o.kept; known = forgotten o.known }
 
 pub unknowing-on : (base : Entries) (o : OpenSession) → IsSessionOn base o → IsSessionOn base (unknowing o)
 unknowing-on base o on = record { drawn = on.drawn; answers = on.answers; named = on.named; known = known-on base base o.draft o.known on.known }

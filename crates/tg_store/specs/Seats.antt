@@ -15,7 +15,7 @@ use Rattle.tg_store.specs.StepWords.{IsNamedStep}
 use Rattle.tg_store.specs.Answers.{AreAnswers}
 use Rattle.tg_store.specs.Histories.{replay, count_of}
 use Rattle.tg_store.specs.Drafted.{IsDraftOf}
-use Rattle.tg_store.specs.Knowing.{IsKnown}
+use Rattle.tg_store.specs.Knowing.{IsKnown, forgotten}
 use Rattle.tg_store.specs.Worlds.{SeatView}
 
 -- what the world shows of a seat
@@ -28,6 +28,18 @@ pub record IsSessionOn (base : Entries) (o : OpenSession) : Type 0 where
   pub answers : AreAnswers (graph_of base) o.kept.items
   pub named : All (λ a. IsNamedStep a.step) o.kept.items
   pub known : IsKnown base o.draft o.known
+
+-- the session which knows what is still known where the base is another
+abbrev pub unknowing : OpenSession → OpenSession
+unknowing o = record { draft = o.draft; kept = o.kept; known = forgotten o.known }
+
+-- the seat whose open session does
+abbrev pub given_up : SeatState → SeatState
+given_up s = record s { session = option_map unknowing s.session }
+
+-- the seat's open session knows nothing that takes memory
+abbrev pub KnowsNothing : SeatState → Type 0
+KnowsNothing s = IfSome s.session (λ o. o.known ≡ forgotten o.known)
 
 -- an open session stands on its seat's graph
 abbrev pub IsConsistent : SeatState → Type 0

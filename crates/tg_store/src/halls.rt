@@ -132,6 +132,16 @@ fn is_learned(reply: &HallReply) -> bool
     }
 }
 
+// Whether a reply says that memory was refused.
+fn is_short_of_memory(reply: &HallReply) -> bool
+    ensures { result ≡ is_short_of_memory reply.now }
+{
+    match *reply {
+        HallReply::Refused(HallFault::Memory) => true,
+        _ => false,
+    }
+}
+
 // Notes a reply, for which there is room.
 fn note(replies: &mut Vec<HallReply>, reply: HallReply)
     requires { vec_len replies.old < vec_capacity replies.old }
@@ -237,8 +247,22 @@ impl Hall {
         }
     }
 
-    // One event.
-    fn happen(&mut self, event: &Event) -> HallReply
+    /// Gives up what the open sessions know of their graphs from earlier questions, and says whether that took
+    /// memory. No answer hangs on it, and nothing that the hall stands for changes: it makes room.
+    pub fn give_up_known(&mut self) -> bool
+        ensures { self.new ≡ self.old }
+    {
+        seats::give_up_all(self.seats.as_mut_slice())
+    }
+
+    /// Whether some open session knows something that takes memory.
+    #[cfg(test)]
+    pub(crate) fn knows_any(&self) -> bool {
+        self.seats.iter().any(|seat| seat.knows_any())
+    }
+
+    // One event, which is tried once.
+    fn try_event(&mut self, event: &Event) -> HallReply
         requires { IsStageable event.now }
         ensures happens { Happens self.old event.now result self.new }
         ensures spared { takes_memory event.now ≡ false → is_short_of_memory result ≡ false }
@@ -255,6 +279,23 @@ impl Hall {
         }
     }
 
+    // One event. Where it is refused memory while open sessions know something, that is given up, and the
+    // event is tried once more.
+    fn happen(&mut self, event: &Event) -> HallReply
+        requires { IsStageable event.now }
+        ensures happens { Happens self.old event.now result self.new }
+        ensures spared { takes_memory event.now ≡ false → is_short_of_memory result ≡ false }
+    {
+        let reply = self.try_event(event);
+        if !is_short_of_memory(&reply) {
+            return reply;
+        }
+        if !self.give_up_known() {
+            return reply;
+        }
+        self.try_event(event)
+    }
+
     /// One event at a seat.
     ///
     /// `NoSeat` comes exactly where no seat has the number. What each event answers and leaves is
@@ -267,6 +308,22 @@ impl Hall {
         self.happen(&event)
     }
 
+    // Room for so many replies. Where it is refused while open sessions know something, that is given up, and
+    // it is asked for once more.
+    fn room_for(&mut self, count: usize) -> Result<Vec<HallReply>, AllocError>
+        ensures room { IfOk result (λ replies. vec_capacity replies ≡ count) }
+        ensures empty { IfOk result (λ replies. (replies.items ≡ []) × (vec_len replies ≡ 0)) }
+        ensures same { self.new ≡ self.old }
+    {
+        if let Ok(replies) = Vec::with_capacity(self.alloc, count) {
+            return Ok(replies);
+        }
+        if !self.give_up_known() {
+            return Err(AllocError);
+        }
+        Vec::with_capacity(self.alloc, count)
+    }
+
     /// Events one after another. An error changes nothing: room for the replies is made first.
     pub fn run(&mut self, events: &[Event]) -> Result<Vec<HallReply>, AllocError>
         requires { All IsStageable events.now }
@@ -274,7 +331,7 @@ impl Hall {
         ensures legal { OnOk result (IsLegal (graph_of self.new.opening) self.new.history) }
         ensures err { OnErr result (self.new ≡ self.old) }
     {
-        let mut replies = Vec::with_capacity(self.alloc, events.len())?;
+        let mut replies = self.room_for(events.len())?;
         for event in events {
             let reply = self.happen(event);
             note(&mut replies, reply);
@@ -323,8 +380,8 @@ impl Hall {
     }
 
     // A free seat takes in all that is left at once, over from another that has taken in all: at
-    // the cost of the vertices that were written since.
-    fn take_over(&mut self, index: usize, other: usize) -> Result<(), AllocError>
+    // the cost of the vertices that were written since. It is tried once.
+    fn try_take_over(&mut self, index: usize, other: usize) -> Result<(), AllocError>
         requires behind { IsBehind self.old (index + 1) index other }
         requires free { is_free self.old (index + 1) ≡ true }
         ensures took { OnOk result
@@ -333,6 +390,24 @@ impl Hall {
     {
         let positions = self.trail.from(self.seats[index].taken());
         seats::take_over(self.seats.as_mut_slice(), index, other, positions)
+    }
+
+    // The same. Where it is refused memory while open sessions know something, that is given up, and it is
+    // tried once more.
+    fn take_over(&mut self, index: usize, other: usize) -> Result<(), AllocError>
+        requires behind { IsBehind self.old (index + 1) index other }
+        requires free { is_free self.old (index + 1) ≡ true }
+        ensures took { OnOk result
+            (self.new ≡ with_seat self.old (index + 1) (caught_up self.old) self.old.history) }
+        ensures err { OnErr result (self.new ≡ self.old) }
+    {
+        if self.try_take_over(index, other).is_ok() {
+            return Ok(());
+        }
+        if !self.give_up_known() {
+            return Err(AllocError);
+        }
+        self.try_take_over(index, other)
     }
 
     // A free seat takes in all that is left.

@@ -1,34 +1,29 @@
 //! What a session knows of the graph that it asks.
-ghost use Rattle.std.specs.Prelude.{◌≡◌, IfOk, OnErr, IfSome, None};
+ghost use Rattle.std.specs.Prelude.{◌≡◌, false, IfOk, OnErr, None};
 ghost use Rattle.tg_graph.specs.GraphOf.{graph_of};
-ghost use Rattle.tg_graph.specs.Drafts.{Fits};
-ghost use Rattle.tg_analysis.specs.ByTarget.{IsIndexOf, unasked};
+ghost use Rattle.tg_graph.specs.Drafts.{Fits, laid_over};
+ghost use Rattle.tg_analysis.specs.ByTarget.{IsIndexOf, has_found, unasked};
 ghost use Rattle.tg_store.specs.Answers.{IsAnswer, unknown_of_two};
 ghost use Rattle.tg_store.specs.Drafted.{drafted};
-ghost use Rattle.tg_store.specs.Knowing.{Knows, IsKnown, knows_any, forgotten};
+ghost use Rattle.tg_store.specs.Knowing.{IsKnown, knows_any, forgotten};
 
 use std::alloc::{AllocError, Global};
 use tg_analysis::{AskFault, SharingIndex};
 use tg_graph::{Draft, Graph, Name, Reply, Right, Step};
 
-/// The graph that a draft stands for, and its index.
-#[derive(Drop)]
-pub struct Whole {
-    pub(crate) graph: Graph,
-    pub(crate) index: SharingIndex,
-}
-
 /// What a session knows of the graph that its draft stands for, from the questions about sharing that came
-/// before, until a rule is carried out.
+/// before, until a rule is carried out: the islands, once they are found, 8 bytes a vertex. It lists no edges
+/// and keeps no graph, so that many open sessions together keep little beside the graphs of their seats.
 #[derive(Drop)]
 pub enum Known {
     /// The draft changes nothing, and the index is that of the base.
     OfBase(SharingIndex),
-    /// The draft may have changes.
-    OfWhole(Option<Whole>),
+    /// The draft may have changes, and the index is that of the graph that it stands for.
+    OfWhole(SharingIndex),
 }
 
-// Answers by the index of a graph whether x can come to have a right over y, which are vertices.
+// Answers by the index of a graph whether x can come to have a right over y, which are vertices. Where memory
+// is refused, what was found is given up.
 fn reply_by(
     index: &mut SharingIndex,
     alloc: Global,
@@ -42,34 +37,23 @@ fn reply_by(
     ensures reply { IfOk result
         (λ reply. IsAnswer (graph_of graph.now) (Step.Share right x y) reply) }
     ensures index { IsIndexOf graph.now index.new }
+    ensures err { OnErr result (index.new ≡ unasked) }
 {
     match index.can_share(alloc, graph, right, x, y) {
         Ok(true) => Ok(Reply::Yes),
         Ok(false) => Ok(Reply::No),
         // both names are vertices, so only memory can be wanting
-        Err(AskFault::Unknown(_) | AskFault::TooLarge | AskFault::Memory) => Err(AllocError),
+        Err(AskFault::Unknown(_) | AskFault::TooLarge | AskFault::Memory) => {
+            *index = SharingIndex::of_islands_alone();
+            Err(AllocError)
+        }
     }
 }
 
-// What is known of a draft: what was, or what is made now.
-fn whole_of(whole: Option<Whole>, base: &Graph, draft: &Draft) -> Result<Whole, AllocError>
-    requires fits { Fits base.now draft.now }
-    requires whole { IfSome whole (Knows base.now draft.now) }
-    ensures { IfOk result (Knows base.now draft.now) }
-{
-    if let Some(whole) = whole {
-        return Ok(whole);
-    }
-    Ok(Whole {
-        graph: draft.whole(base)?,
-        index: SharingIndex::new(),
-    })
-}
-
-// Answers for a draft. The graph that it stands for is made where it is not known, and given up where memory
-// is refused.
+// Answers for a draft by the index of the graph that it stands for, which is made for this question alone.
+// Where memory is refused, what was found is given up.
 fn reply_on_whole(
-    whole: &mut Option<Whole>,
+    index: &mut SharingIndex,
     alloc: Global,
     base: &Graph,
     draft: &Draft,
@@ -78,17 +62,18 @@ fn reply_on_whole(
     y: Name,
 ) -> Result<Reply, AllocError>
     requires fits { Fits base.now draft.now }
-    requires whole { IfSome whole.old (Knows base.now draft.now) }
+    requires index { IsIndexOf (laid_over base.now draft.now) index.old }
     requires vertices { unknown_of_two (drafted base.now draft.now) x y ≡ None }
     ensures reply { IfOk result
         (λ reply. IsAnswer (drafted base.now draft.now) (Step.Share right x y) reply) }
-    ensures whole { IfSome whole.new (Knows base.now draft.now) }
-    ensures err { OnErr result (whole.new ≡ None) }
+    ensures index { IsIndexOf (laid_over base.now draft.now) index.new }
+    ensures err { OnErr result (index.new ≡ unasked) }
 {
-    let mut made = whole_of(whole.take(), base, draft)?;
-    let reply = reply_by(&mut made.index, alloc, &made.graph, right, x, y)?;
-    *whole = Some(made);
-    Ok(reply)
+    let Ok(whole) = draft.whole(base) else {
+        *index = SharingIndex::of_islands_alone();
+        return Err(AllocError);
+    };
+    reply_by(index, alloc, &whole, right, x, y)
 }
 
 impl Known {
@@ -96,11 +81,45 @@ impl Known {
     pub fn unasked() -> Known
         ensures { result ≡ Known.OfBase unasked }
     {
-        Known::OfBase(SharingIndex::new())
+        Known::OfBase(SharingIndex::of_islands_alone())
+    }
+
+    /// What is known of a draft that may have changes, before the first question.
+    pub fn of_changes() -> Known
+        ensures { result ≡ Known.OfWhole unasked }
+    {
+        Known::OfWhole(SharingIndex::of_islands_alone())
+    }
+
+    // Answers as `reply` does, by one try. An error leaves nothing known.
+    fn ask(
+        &mut self,
+        alloc: Global,
+        base: &Graph,
+        draft: &Draft,
+        right: Right,
+        x: Name,
+        y: Name,
+    ) -> Result<Reply, AllocError>
+        requires fits { Fits base.now draft.now }
+        requires known { IsKnown base.now draft.now self.old }
+        requires vertices { unknown_of_two (drafted base.now draft.now) x y ≡ None }
+        ensures reply { IfOk result
+            (λ reply. IsAnswer (drafted base.now draft.now) (Step.Share right x y) reply) }
+        ensures known { IsKnown base.now draft.now self.new }
+        ensures err { OnErr result (self.new ≡ forgotten self.old) }
+    {
+        match self {
+            Known::OfBase(index) => reply_by(index, alloc, base, right, x, y),
+            Known::OfWhole(index) => reply_on_whole(index, alloc, base, draft, right, x, y),
+        }
     }
 
     /// Answers whether x can come to have a right over y, which are vertices. What is found on the way is
     /// known from then on.
+    ///
+    /// Where memory is refused while something is known, that is given up, and the question is tried once more.
+    /// An error leaves nothing known.
     pub fn reply(
         &mut self,
         alloc: Global,
@@ -116,29 +135,32 @@ impl Known {
         ensures reply { IfOk result
             (λ reply. IsAnswer (drafted base.now draft.now) (Step.Share right x y) reply) }
         ensures known { IsKnown base.now draft.now self.new }
+        ensures err { OnErr result (knows_any self.new ≡ false) }
     {
-        match self {
-            Known::OfBase(index) => reply_by(index, alloc, base, right, x, y),
-            Known::OfWhole(whole) => reply_on_whole(whole, alloc, base, draft, right, x, y),
+        if self.knows_any() {
+            // an error gives up what stands in the way of the next try
+            if let Ok(reply) = self.ask(alloc, base, draft, right, x, y) {
+                return Ok(reply);
+            }
         }
+        self.ask(alloc, base, draft, right, x, y)
     }
 
-    /// Whether something is known that takes memory: what was found of the base, or the graph that the draft
-    /// stands for.
+    /// Whether something is known that takes memory.
     pub fn knows_any(&self) -> bool
         ensures { result ≡ knows_any self.now }
     {
         match self {
             Known::OfBase(index) => index.has_found(),
-            Known::OfWhole(whole) => whole.is_some(),
+            Known::OfWhole(index) => index.has_found(),
         }
     }
 
     /// Knows nothing of a draft from then on, which may have changes.
     pub fn forget(&mut self)
-        ensures { self.new ≡ Known.OfWhole None }
+        ensures { self.new ≡ Known.OfWhole unasked }
     {
-        *self = Known::OfWhole(None);
+        *self = Known::of_changes();
     }
 
     /// Gives up what takes memory.
@@ -146,8 +168,8 @@ impl Known {
         ensures { self.new ≡ forgotten self.old }
     {
         match self {
-            Known::OfBase(index) => *index = SharingIndex::new(),
-            Known::OfWhole(whole) => *whole = None,
+            Known::OfBase(index) => *index = SharingIndex::of_islands_alone(),
+            Known::OfWhole(index) => *index = SharingIndex::of_islands_alone(),
         }
     }
 
@@ -157,7 +179,7 @@ impl Known {
     {
         match self {
             Known::OfBase(_) => Known::unasked(),
-            Known::OfWhole(_) => Known::OfWhole(None),
+            Known::OfWhole(_) => Known::of_changes(),
         }
     }
 }

@@ -42,7 +42,7 @@ fn refused(base: &Graph, draft: &Draft, rule: &Rule) -> Refusal
     }
 }
 
-/// Carries out a rule in a session. An error changes nothing.
+/// Carries out a rule in a session. An error changes nothing, and comes only where the rule is not refused.
 pub fn carry_out(base: &Graph, draft: &mut Draft, rule: &Rule) -> Result<Reply, AllocError>
     requires fits { Fits base.now draft.old }
     requires named { IsNamed (rights_of rule.now) }
@@ -54,6 +54,7 @@ pub fn carry_out(base: &Graph, draft: &mut Draft, rule: &Rule) -> Result<Reply, 
         (GainsRows draft.old (step_writes (drafted base.now draft.old) (Step.Do rule.now))
         draft.new) }
     ensures err { OnErr result (draft.new ≡ draft.old) }
+    ensures due { OnErr result (session_refusal (drafted base.now draft.old) rule.now ≡ None) }
     ensures kept { IfOk result (λ reply. (reply ≡ Reply.Done → ⊥) → draft.new ≡ draft.old) }
     ensures fits { Fits base.now draft.new }
 {
@@ -99,7 +100,7 @@ fn answer_holds(base: &Graph, draft: &Draft, right: Right, x: Name, y: Name) -> 
 }
 
 // Answers whether x can come to have a right over y. Where x has it, a look is enough; else what is known
-// of the draft serves for it.
+// of the draft serves for it. An error leaves nothing known.
 fn answer_share(
     alloc: Global,
     base: &Graph,
@@ -114,6 +115,7 @@ fn answer_share(
     ensures reply { IfOk result
         (λ reply. IsAnswer (drafted base.now draft.now) (Step.Share right x y) reply) }
     ensures known { IsKnown base.now draft.now known.new }
+    ensures unknown { OnErr result (knows_any known.new ≡ false) }
 {
     if let Some(refusal) = unknown_of_two(base, draft, x, y) {
         return Ok(Reply::Refused(refusal));
@@ -170,6 +172,7 @@ fn carry_out_known(
     ensures err { OnErr result (draft.new ≡ draft.old) }
     ensures fits { Fits base.now draft.new }
     ensures known { IsKnown base.now draft.new known.new }
+    ensures unknown { OnErr result (knows_any known.new ≡ false) }
 {
     let reply = carry_out(base, draft, rule)?;
     if let Reply::Done = reply {
@@ -178,7 +181,7 @@ fn carry_out_known(
     Ok(reply)
 }
 
-/// Answers a step, and carries it out. An error changes nothing, but what is known of the draft.
+/// Answers a step, and carries it out. An error changes nothing, but leaves nothing known of the draft.
 pub fn answer(
     alloc: Global,
     base: &Graph,
@@ -197,6 +200,7 @@ pub fn answer(
     ensures err { OnErr result (draft.new ≡ draft.old) }
     ensures fits { Fits base.now draft.new }
     ensures known { IsKnown base.now draft.new known.new }
+    ensures unknown { OnErr result (knows_any known.new ≡ false) }
 {
     match *step {
         Step::Do(rule) => {

@@ -1,5 +1,5 @@
 //! The seats of a hall.
-ghost use Rattle.std.specs.Prelude.{◌≡◌, ◌≢◌, ◌<◌, ◌≤◌, ◌∷◌, ◌++◌, [], List, All, IsSome, IfOk, OnOk, OnErr, IfSome, Some, None, length, slice_get, vec_len, not, is_none, false};
+ghost use Rattle.std.specs.Prelude.{◌≡◌, ◌≢◌, ◌<◌, ◌≤◌, ◌∷◌, ◌++◌, [], List, All, IsSome, IfOk, OnOk, OnErr, IfSome, Some, None, length, map, slice_get, vec_len, not, is_none, false};
 ghost use Rattle.std.specs.Option.{option_map};
 ghost use Rattle.std.specs.Vec.{vec_capacity};
 ghost use Rattle.tg_graph.specs.Graphs.{ProtectionGraph};
@@ -13,8 +13,9 @@ ghost use Rattle.tg_store.specs.Answers.{IsAnswer, AreAnswers, after_steps};
 ghost use Rattle.tg_store.specs.Histories.{count_of, replay};
 ghost use Rattle.tg_store.specs.Touches.{IsClear};
 ghost use Rattle.tg_store.specs.Trails.{HasRoom, SameTrail, IsTrail, LeadsBy, TakesOver, vertices_at};
-ghost use Rattle.tg_store.specs.Seats.{IsSessionOn};
-ghost use Rattle.tg_store.specs.Knowing.{forgotten};
+ghost use Rattle.tg_store.specs.Seats.{IsSessionOn, unknowing, given_up, KnowsNothing};
+ghost use Rattle.tg_analysis.specs.ByTarget.{unasked};
+ghost use Rattle.tg_store.specs.Knowing.{knows_any, forgotten};
 ghost use Rattle.tg_store.specs.Worlds.{is_short_of_memory, one_further, fresh_seat, Begins, TakesIn, Learns, Stages, Aborts, Joins, Puts};
 
 use crate::answers::{Answered, Steps};
@@ -76,12 +77,12 @@ impl OpenSession {
     /// The session with a draft and steps, where nothing is known of the graph that the draft stands
     /// for.
     pub(crate) fn of_parts(draft: Draft, kept: Vec<Answered>) -> OpenSession
-        ensures { result ≡ record { draft = draft; kept = kept; known = Known.OfWhole None } }
+        ensures { result ≡ record { draft = draft; kept = kept; known = Known.OfWhole unasked } }
     {
         OpenSession {
             draft,
             kept,
-            known: Known::OfWhole(None),
+            known: Known::of_changes(),
         }
     }
 
@@ -107,8 +108,25 @@ impl OpenSession {
         }
     }
 
-    // Answers a step, and keeps it with its reply. An error changes no step; where there is no room for the
-    // step, what is known is given up, so that it does not stand in the way of the next try.
+    // Makes room for a step. Where there is none beside what is known, that is given up, and room is asked for
+    // once more. An error leaves nothing known.
+    fn make_room(&mut self) -> Result<(), AllocError>
+        ensures kept { self.new.kept.items ≡ self.old.kept.items }
+        ensures room { OnOk result (vec_len self.new.kept < vec_capacity self.new.kept) }
+        ensures on { (base : Entries) → IsSessionOn base self.old → IsSessionOn base self.new }
+        ensures unknown { OnErr result (knows_any self.new.known ≡ false) }
+    {
+        if self.kept.reserve(1).is_ok() {
+            return Ok(());
+        }
+        if !self.known.knows_any() {
+            return Err(AllocError);
+        }
+        self.known.give_up();
+        self.kept.reserve(1)
+    }
+
+    // Answers a step, and keeps it with its reply. An error changes no step, and leaves nothing known.
     pub(crate) fn stage(&mut self, base: &Graph, step: &Step) -> Result<Reply, AllocError>
         requires on { IsSessionOn base.now self.old }
         requires named { IsNamedStep step.now }
@@ -120,11 +138,9 @@ impl OpenSession {
             ++ (record { step = step.now; reply = reply }) ∷ []) }
         ensures err { OnErr result (self.new.kept.items ≡ self.old.kept.items) }
         ensures on { IsSessionOn base.now self.new }
+        ensures unknown { OnErr result (knows_any self.new.known ≡ false) }
     {
-        if self.kept.reserve(1).is_err() {
-            self.known.give_up();
-            return Err(AllocError);
-        }
+        self.make_room()?;
         let alloc = *self.kept.allocator();
         let outcome = replays::answer(alloc, base, &mut self.draft, &mut self.known, step);
         // `created` says that it is a draft
@@ -138,10 +154,7 @@ impl OpenSession {
 
 // The same session, if there is one, which knows what is still known where the base is another.
 fn unknowing(session: Option<OpenSession>) -> Option<OpenSession>
-    ensures seen { option_map (λ o. o.kept.items) result ≡ option_map (λ o. o.kept.items) session }
-    ensures unknown { IfSome result (λ o. o.known ≡ forgotten o.known) }
-    ensures on { (base : Entries) → IfSome session (IsSessionOn base) → IfSome result
-        (IsSessionOn base) }
+    ensures { result ≡ option_map unknowing session }
 {
     match session {
         Some(session) => Some(session.unknowing()),
@@ -166,6 +179,36 @@ impl SeatState {
             session: None,
             alloc,
         })
+    }
+
+    /// Gives up what the open session knows of its graph, and says whether that took memory.
+    pub fn give_up(&mut self) -> bool
+        ensures value { self.new ≡ given_up self.old }
+        ensures unknown { KnowsNothing self.new }
+        ensures seen { seen_seat self.new ≡ seen_seat self.old }
+        ensures taken { self.new.taken ≡ self.old.taken }
+        ensures graph { self.new.graph ≡ self.old.graph }
+        ensures commits { self.new.commits ≡ self.old.commits }
+        ensures open { IsSome self.old.session → IsSome self.new.session }
+        ensures rests { (g : ProtectionGraph) (history : List Record) → Rests g history self.old
+            → Rests g history self.new }
+        ensures consistent { IsConsistent self.old → IsConsistent self.new }
+    {
+        let took_memory = match &self.session {
+            Some(session) => session.known.knows_any(),
+            None => false,
+        };
+        self.session = unknowing(self.session.take());
+        took_memory
+    }
+
+    /// Whether the open session knows something that takes memory.
+    #[cfg(test)]
+    pub(crate) fn knows_any(&self) -> bool {
+        match &self.session {
+            Some(session) => session.known.knows_any(),
+            None => false,
+        }
     }
 
     // Lends its graph, and has the empty one meanwhile.
@@ -289,12 +332,13 @@ impl SeatState {
     }
 
     // Lays the steps of a record on the graph. The draft of the open session, of which the record
-    // is clear, is as it was. An error changes nothing but what that session knows.
+    // is clear and which knows nothing, is as it was. An error changes nothing.
     fn lay(&mut self, committed: &[Answered]) -> Result<(), AllocError>
         requires consistent { IsConsistent self.old }
         requires named { All (λ a. IsNamedStep a.step) committed.now }
         requires clear { IsClear (graph_of self.old.graph) committed.now
             (seen_seat self.old).session }
+        requires unknown { KnowsNothing self.old }
         ensures graph { OnOk result
             (graph_of self.new.graph ≡ after_steps (graph_of self.old.graph) committed.now) }
         ensures err { OnErr result (self.new.graph ≡ self.old.graph) }
@@ -305,7 +349,6 @@ impl SeatState {
         // no vertex stands twice in the graph: this `len` says
         let _ = self.graph.len();
         let draft = replays::with_steps(&self.graph, committed)?;
-        self.session = unknowing(self.session.take());
         replays::merge(&mut self.graph, draft)?;
         Ok(())
     }
@@ -327,6 +370,7 @@ impl SeatState {
     {
         let committed = next.steps.as_slice();
         if spoilers::has_change(committed) {
+            self.give_up();
             self.lay(committed)?;
         }
         self.taken += 1;
@@ -399,7 +443,7 @@ impl SeatState {
         Ok(positions)
     }
 
-    // Puts the open session at the end of the history.
+    // Puts the open session at the end of the history. It knows nothing that stands in the way of a request.
     fn join(
         &mut self,
         number: u32,
@@ -413,6 +457,7 @@ impl SeatState {
         requires room { length records.old.items < cells }
         requires cells { cells ≤ most_cells }
         requires all_taken { self.old.taken ≡ length records.old.items }
+        requires unknown { KnowsNothing self.old }
         ensures joins { IfSome (seen_seat self.old).session (λ steps.
             Joins cells number records.old.items steps (seen_seat self.old) result (seen_seat self.new) records.new.items) }
         ensures rests { (g : ProtectionGraph) → Rests g records.old.items self.old
@@ -423,8 +468,6 @@ impl SeatState {
         ensures counted { self.new.commits ≡ count_of number records.new.items }
     {
         let Ok(positions) = self.make_room(records, trail) else {
-            // what the session knows does not stand in the way of the next try
-            self.session = unknowing(self.session.take());
             return HallReply::Refused(HallFault::Memory);
         };
         let place = records.len();
@@ -484,8 +527,20 @@ impl SeatState {
             self.session = None;
             return HallReply::Refused(HallFault::JournalFull);
         }
+        self.give_up();
         self.join(number, cells, records, trail)
     }
+}
+
+/// Gives up what the open sessions know of their graphs, and says whether that took memory.
+pub fn give_up_all(seats: &mut [SeatState]) -> bool
+    ensures { seats.new ≡ map given_up seats.old }
+{
+    let mut took_memory = false;
+    for at in 0..seats.len() {
+        took_memory |= seats[at].give_up();
+    }
+    took_memory
 }
 
 /// A seat comes to where another seat stands, to whose graph the vertices at the positions lead

@@ -7,7 +7,7 @@ use Rattle.tg_store.specs.Worlds.{World, seat_of, seat_in, Happens, Moves}
 use Rattle.tg_store.specs.Seats.{seen_seat, IsConsistent, Rests}
 use Rattle.tg_store.specs.HallFields.{world_of}
 use Rattle.tg_store.proofs.HallLemmas.{next_answers, at_index, grows, legal-later, numbered-later, room-later, rests-later, counted-later, view_none, view_seat, view_set, happens-none, happens-some}
-use Rattle.tg_store.proofs.halls.Hall.happen.Goals as goal
+use Rattle.tg_store.proofs.halls.Hall.try_event.Goals as goal
 
 pub event_at-requires-clause-answers : goal.event_at-requires-clause-answers
 event_at-requires-clause-answers c =

@@ -11,7 +11,7 @@ use Rattle.tg_store.specs.Seats.{seen_seat, IsConsistent, Rests, AreCounted}
 use Rattle.tg_store.specs.Trails.{TakesOver}
 use Rattle.tg_store.proofs.TrailLemmas.{starts-within, leads-left}
 use Rattle.tg_store.proofs.TakingOver.{at_place, seen_at, by_result, on_ok_then, rests-over, consistent-over, counted-over, world-over}
-use Rattle.tg_store.proofs.halls.Hall.take_over.Goals as goal
+use Rattle.tg_store.proofs.halls.Hall.try_take_over.Goals as goal
 
 pub from-positions-requires : goal.from-positions-requires
 from-positions-requires c = let h = c.self.inside in starts-within (graph_of h.opening) h.records.items h.trail c.self.invariant.trail

@@ -23,7 +23,7 @@ returns-clause-counted c =
       | in-Some+in-Ok-merge w ↦
           ap (λ (s : SeatState). s.commits) w.self-is ∙ ap (λ n. n + 1) c.requires.counted ∙ sym (count-own number c.args.records.now.items old.commits w.from_vec.result)
           ∙ ap (count_of number) (sym (ap (λ v. v.items) w.records-is ∙ w.push_reserved.ensures.items ∙ ap (λ xs. xs ++ (record { seat = number; number = old.commits; steps = w.from_vec.result }) ∷ []) c.make_room.ensures.records))
-      | in_default-take w ↦ absurd (true≢false (sym (subst IsSome (sym c.take-2.ensures.value ∙ w.in_default-take.is) c.requires.open)))
+      | in_default-take w ↦ absurd (true≢false (sym (subst IsSome (sym c.take.ensures.value ∙ w.in_default-take.is) c.requires.open)))
     ]
 
 pub returns-clause-rests : goal.returns-clause-rests
@@ -37,7 +37,7 @@ returns-clause-rests c g h =
           (ap (λ v. v.items) w.records-is ∙ w.push_reserved.ensures.items ∙ ap (λ xs. xs ++ r ∷ []) c.make_room.ensures.records)
           (ap (λ (s : SeatState). s.taken) w.self-is)
           (ap (λ (s : SeatState). graph_of s.graph) w.self-is ∙ ap graph_of w.in-Ok-merge.ensures.merged ∙ ap (drafted old.graph) w.into_parts-draft.ensures.draft ∙ on.drawn.stands ∙ ap (after_steps (graph_of old.graph)) (sym (ap (λ v. v.items) w.into_parts-draft.ensures.kept) ∙ sym w.from_vec.ensures)) h
-      | in_default-take w ↦ absurd (true≢false (sym (subst IsSome (sym c.take-2.ensures.value ∙ w.in_default-take.is) c.requires.open)))
+      | in_default-take w ↦ absurd (true≢false (sym (subst IsSome (sym c.take.ensures.value ∙ w.in_default-take.is) c.requires.open)))
     ]
 
 pub returns-in_default-clause-trail : goal.returns-in_default-clause-trail
@@ -62,5 +62,5 @@ returns-clause-trail c g rest h =
           (subst (λ steps. IsDraftOf old.graph steps w.in-Some.session.draft) (sym (ap (λ v. v.items) w.into_parts-draft.ensures.kept) ∙ sym w.from_vec.ensures) on.drawn)
           (subst (λ ps. ArePositionsOf old.graph w.in-Some.session.draft ps) (sym w.as_slice.ensures.value) at)
           rest h
-      | in_default-take w ↦ absurd (true≢false (sym (subst IsSome (sym c.take-2.ensures.value ∙ w.in_default-take.is) c.requires.open)))
+      | in_default-take w ↦ absurd (true≢false (sym (subst IsSome (sym c.take.ensures.value ∙ w.in_default-take.is) c.requires.open)))
     ]
