@@ -147,7 +147,7 @@ impl Positions {
                 few.add_all(positions);
             }
             Listed::Few(few) => {
-                let mut many = few.copied(positions.len())?;
+                let mut many = few.copied(positions.len().max(FEW_POSITIONS))?;
                 many.extend_from_slice(positions)?;
                 self.listed = Listed::Many(many);
             }
