@@ -191,9 +191,9 @@ fn refused_derivations_at_a_hub(rt: HostRuntime) -> Result<(), Fail> {
     Ok(())
 }
 
-// The rows show the hub's neighbours and those of _10; for those of _2 the links are listed.
+// The same of the hub alone, where few edges link.
 #[test]
-fn refused_a_late_list(rt: HostRuntime) -> Result<(), Fail> {
+fn refused_derivation_at_a_wide_hub(rt: HostRuntime) -> Result<(), Fail> {
     let graph = wide_hub(rt.alloc())?;
     let x = Name::helper(1);
     assert!(rt; rule_count_again(rt.alloc(), &graph, Right::R, x) == Ok(Some(4)));
