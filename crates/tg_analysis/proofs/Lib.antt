@@ -37,4 +37,3 @@ pub mod ByTarget
 pub mod Blocked
 pub mod Spreads
 pub mod LookedUp
-pub mod NearRows

@@ -142,7 +142,7 @@ module _ (es : Entries) (i : ℕ) where
 
 -- ---- all rows
 module _ (es : Entries) (ok : IsGraph es) where
-  pub tie-end : (a place b : ℕ) (u v : Name) → slice_get (keys_of es) a ≡ Some u → slice_get (keys_of es) b ≡ Some v → linked_end es a place ≡ Some b → ((graph_of es).holds u T v || (graph_of es).holds u G v) ≡ true
+  tie-end : (a place b : ℕ) (u v : Name) → slice_get (keys_of es) a ≡ Some u → slice_get (keys_of es) b ≡ Some v → linked_end es a place ≡ Some b → ((graph_of es).holds u T v || (graph_of es).holds u G v) ≡ true
   tie-end a place b u v p q e =
       let h = has_end es a place b e in
       let is : h.name ≡ v = (let r = at-position (keys_of es) h.name b h.known in cc) in
@@ -221,7 +221,7 @@ module _ (es : Entries) (ok : IsGraph es) where
       by (place, inl e) = (s.there a place b (whole_before a place b e) e).0
       by (place, inr e) = (s.there b place a (whole_before b place a e) e).1
 
-  pub alike : (a b : Bool) → (a ≡ true → b ≡ true) → (b ≡ true → a ≡ true) → a ≡ b
+  alike : (a b : Bool) → (a ≡ true → b ≡ true) → (b ≡ true → a ≡ true) → a ≡ b
   alike true b f g = sym (f refl)
   alike false true f g = g refl
   alike false false f g = refl

@@ -1,5 +1,5 @@
 -- Breadth-first searches: what was met, and what a search that ends without a holder says.
-use Rattle.std.proofs.Common.{IfSome, ◌≡◌, ℕ, zero, suc, ◌+◌, ◌<◌, ◌≤◌, Bool, true, false, ◌||◌, ◌⊎◌, inl, inr, if◌then◌else◌, List, [], ◌∷◌, ◌++◌, length, Option, Some, None, get_or, slice_get, is_some, refl, sym, ap, ◌∙◌, subst, IsTrue, arith, bytes_eq}
+use Rattle.std.proofs.Common.{◌≡◌, ℕ, zero, suc, ◌+◌, ◌<◌, ◌≤◌, Bool, true, false, ◌||◌, ◌⊎◌, inl, inr, if◌then◌else◌, List, [], ◌∷◌, ◌++◌, length, Option, Some, None, get_or, slice_get, is_some, refl, sym, ap, ◌∙◌, subst, IsTrue, arith, bytes_eq}
 use Rattle.std.proofs.lemmas.Bool.{true≢false, both_ways, cases_lt, or_cases, or_left, or_right}
 use Rattle.std.proofs.lemmas.List.Folds.{list_any-append}
 use Rattle.std.proofs.lemmas.Option.{slice_get_within, slice_get-get_or}
@@ -231,10 +231,10 @@ pub searches-then : (g : ProtectionGraph) (a b c : Search) → SearchesOn g a b 
 searches-then g a b c one other = record { searching = other.searching; start = other.start ∙ one.start; grows = grows-then a.met b.met c.met one.grows other.grows }
 
 -- the search has gone round the next vertex
-pub searches-round : (g : ProtectionGraph) (old new : Search) (place : ℕ) (vertex : Name) → IsSearching g old → slice_get (keys_of old.met) place ≡ Some vertex → place ≡ old.rounds → GoesRound g place vertex old.met new.met → IfSome new.links (AreLinks g) → new.start ≡ old.start → new.rounds ≡ place + 1 → SearchesOn g old new
+pub searches-round : (g : ProtectionGraph) (old new : Search) (place : ℕ) (vertex : Name) → IsSearching g old → slice_get (keys_of old.met) place ≡ Some vertex → place ≡ old.rounds → GoesRound g place vertex old.met new.met → new.links ≡ old.links → new.start ≡ old.start → new.rounds ≡ place + 1 → SearchesOn g old new
 searches-round g old new place vertex is here turn r links start rounds = record {
   searching = record {
-    links = links;
+    links = subst (λ ls. AreLinks g ls) (sym links) is.links;
     is_search = r.search;
     first = visit-key new.met 0 (old.start, began.0) (r.grows.places 0 (old.start, began.0) began.1) ∙ ap Some (sym start);
     order = subst (λ n. IsInOrder new.met n) (sym rounds) (order-later new.met place (place + 1) (omega arith) r.order);

@@ -15,5 +15,4 @@ pub mod Gathered
 pub mod Tables
 pub mod ByTarget
 pub mod Holders
-pub mod NearRows
 pub mod Positions

@@ -1,5 +1,5 @@
 -- Breadth-first searches for a vertex that holds a right.
-use Rattle.std.specs.Prelude.{◌≡◌, ℕ, ◌<◌, ◌≤◌, ◌==◌, IsTrue, true, false, if◌then◌else◌, List, [], ◌∷◌, ◌++◌, slice_get, nat_eq, Option, Some, None, IfSome, ◌⊎◌}
+use Rattle.std.specs.Prelude.{◌≡◌, ℕ, ◌<◌, ◌≤◌, ◌==◌, IsTrue, true, false, if◌then◌else◌, List, [], ◌∷◌, ◌++◌, slice_get, nat_eq, Option, Some, None, ◌⊎◌}
 use Rattle.std.specs.List.{list_any}
 use Rattle.std.specs.Map.{keys_of}
 use Rattle.std.specs.Option.{option_and_then}
@@ -115,7 +115,7 @@ pub record GoesRound (g : ProtectionGraph) (place : ℕ) (u : Name) (old new : V
 
 -- a breadth-first search from its start has gone round the first of those that it has met
 pub record IsSearching (g : ProtectionGraph) (search : Search) : Type 0 where
-  pub links : IfSome search.links (AreLinks g)
+  pub links : AreLinks g search.links
   pub is_search : IsSearch g search.met
   pub first : slice_get (keys_of search.met) 0 ≡ Some search.start
   pub order : IsInOrder search.met search.rounds

@@ -1,5 +1,5 @@
 //! Chains of links from a vertex that holds a right.
-ghost use Rattle.std.specs.Prelude.{◌≡◌, ◌<◌, ◌≤◌, ◌+◌, ◌^◌, [], Some, IsTrue, IfOk, OnOk, IfSome, MatchOption, slice_get};
+ghost use Rattle.std.specs.Prelude.{◌≡◌, ◌<◌, ◌≤◌, ◌+◌, ◌^◌, [], Some, IsTrue, IfOk, OnOk, MatchOption, slice_get};
 ghost use Rattle.std.specs.Map.{keys_of};
 ghost use Rattle.tg_graph.specs.Graphs.{has_vertex, WellFormed};
 ghost use Rattle.tg_graph.specs.GraphOf.{graph_of};
@@ -7,17 +7,10 @@ ghost use Rattle.tg_analysis.specs.Sharing.{HeldInIsland};
 ghost use Rattle.tg_analysis.specs.Linked.{AreLinks};
 ghost use Rattle.tg_analysis.specs.Searches.{AreNear, AddsUnmet, AreUnmet, IsBackwards, IsWayBack, IsSearch, IsInOrder, GoesRound, IsSearching, SearchesOn, IsWay};
 
-use crate::edge_counts::edge_count;
-use crate::holders::cost_of_looks;
 use crate::links::Links;
 use crate::met::Met;
-use crate::near_rows::near_in_rows;
 use std::alloc::{AllocError, Global};
 use tg_graph::{Graph, Name, Right};
-
-// A look at a short row takes no longer than to go through so many edges for the list of links, even where few
-// of them link.
-const EDGES_A_LOOK: usize = 8;
 
 /// A chain of links from a vertex that holds a right.
 #[derive(Drop)]
@@ -57,19 +50,21 @@ fn neighbours<'a>(graph: &Graph, links: &'a Links, vertex: Name) -> &'a [u32]
     }
 }
 
-// The vertices at the positions, which are a vertex's neighbours, that were not met, in name order.
+// The neighbours of a vertex that were not met, in name order.
 fn unmet(
     alloc: Global,
     graph: &Graph,
-    near: &[u32],
+    links: &Links,
     met: &Met,
     vertex: Name,
 ) -> Result<Vec<Name>, AllocError>
     requires well_formed { WellFormed (graph_of graph.now) }
-    requires near { AreNear (graph_of graph.now) vertex near.now }
+    requires links { AreLinks (graph_of graph.now) links.now }
+    requires known { IsTrue (has_vertex (graph_of graph.now) vertex) }
     ensures { IfOk result (λ names. AreUnmet (graph_of graph.now) met.now vertex names.items) }
 {
     let mut names = Vec::new(alloc);
+    let near = neighbours(graph, links, vertex);
     for position in near {
         add_unmet(graph, met, *position as usize, &mut names)?;
     }
@@ -77,56 +72,27 @@ fn unmet(
     Ok(names)
 }
 
-// Meets the vertices at the positions, which are the neighbours of the vertex at a place.
-fn meet_all(
+// Meets the neighbours of the vertex at a place.
+fn go_round(
     alloc: Global,
     graph: &Graph,
-    near: &[u32],
+    links: &Links,
     met: &mut Met,
     place: usize,
     vertex: Name,
 ) -> Result<(), AllocError>
     requires well_formed { WellFormed (graph_of graph.now) }
-    requires near { AreNear (graph_of graph.now) vertex near.now }
+    requires links { AreLinks (graph_of graph.now) links.now }
     requires search { IsSearch (graph_of graph.now) met.old }
     requires order { IsInOrder met.old place }
     requires here { slice_get (keys_of met.old) place ≡ Some vertex }
     ensures { OnOk result (GoesRound (graph_of graph.now) place vertex met.old met.new) }
 {
-    let names = unmet(alloc, graph, near, met, vertex)?;
+    let names = unmet(alloc, graph, links, met, vertex)?;
     for name in &names {
         met.meet(*name, place)?;
     }
     Ok(())
-}
-
-// Meets the neighbours of the vertex at a place: those that are listed, or else those that its own and
-// all other rows show.
-fn go_round(
-    alloc: Global,
-    graph: &Graph,
-    links: &Option<Links>,
-    met: &mut Met,
-    place: usize,
-    vertex: Name,
-) -> Result<(), AllocError>
-    requires well_formed { WellFormed (graph_of graph.now) }
-    requires links { IfSome links.now (AreLinks (graph_of graph.now)) }
-    requires search { IsSearch (graph_of graph.now) met.old }
-    requires order { IsInOrder met.old place }
-    requires here { slice_get (keys_of met.old) place ≡ Some vertex }
-    ensures { OnOk result (GoesRound (graph_of graph.now) place vertex met.old met.new) }
-{
-    match links {
-        Some(links) => {
-            let near = neighbours(graph, links, vertex);
-            meet_all(alloc, graph, near, met, place, vertex)
-        }
-        None => {
-            let near = near_in_rows(alloc, graph, vertex)?;
-            meet_all(alloc, graph, near.as_slice(), met, place, vertex)
-        }
-    }
 }
 
 // The vertices on the way back from the one at a place to the first.
@@ -143,31 +109,15 @@ fn way_back(alloc: Global, met: &Met, place: usize) -> Result<Vec<Name>, AllocEr
     Ok(way)
 }
 
-// The links of the graph, if they are to be listed.
-fn links_if(alloc: Global, graph: &Graph, are_due: bool) -> Result<Option<Links>, AllocError>
-    ensures { IfOk result (λ links. IfSome links (AreLinks (graph_of graph.now))) }
-{
-    if !are_due {
-        return Ok(None);
-    }
-    let links = Links::of(alloc, graph)?;
-    Ok(Some(links))
-}
-
 /// A breadth-first search from a vertex, neighbours in name order. It goes on as far as it is asked
 /// to, and from there when it is asked again.
 #[derive(Drop)]
 pub struct Search {
-    // The links of the graph, once they are listed.
-    links: Option<Links>,
+    links: Links,
     start: Name,
     met: Met,
     // The neighbours of those before this place were met.
     rounds: usize,
-    // What looks at all rows take, and how much is left to be spent on such looks before the links are listed,
-    // in looks at short rows. They decide no answer.
-    round: usize,
-    left: usize,
 }
 
 impl Search {
@@ -179,44 +129,17 @@ impl Search {
         ensures searching { IfOk result (λ search. IsSearching (graph_of graph.now) search) }
         ensures start { IfOk result (λ search. search.start ≡ start) }
     {
-        let round = cost_of_looks(graph);
-        let left = edge_count(graph) / EDGES_A_LOOK;
-        let links = links_if(alloc, graph, round > left)?;
         Ok(Search {
-            links,
+            links: Links::of(alloc, graph)?,
             start,
             met: Met::from(alloc, start)?,
             rounds: 0,
-            round,
-            left,
         })
     }
 
-    /// How many looks at short rows were paid for: by the links that are listed, or by those that need not be.
-    /// It decides no answer.
-    pub fn looks_paid(&self) -> usize {
-        match &self.links {
-            Some(links) => links.count(),
-            None => self.left,
-        }
-    }
-
-    // Lists the links of the graph, if looks at all rows would take more than is left.
-    fn list_links(&mut self, alloc: Global, graph: &Graph) -> Result<(), AllocError>
-        requires { IfSome self.old.links (AreLinks (graph_of graph.now)) }
-        ensures links { OnOk result (IfSome self.new.links (AreLinks (graph_of graph.now))) }
-        ensures start { self.new.start ≡ self.old.start }
-        ensures met { self.new.met ≡ self.old.met }
-        ensures rounds { self.new.rounds ≡ self.old.rounds }
-    {
-        if self.links.is_some() {
-            return Ok(());
-        }
-        if self.round > self.left {
-            self.links = Some(Links::of(alloc, graph)?);
-        }
-        self.left = self.left.saturating_sub(self.round);
-        Ok(())
+    /// How many links the graph has. It decides no answer.
+    pub fn link_count(&self) -> usize {
+        self.links.count()
     }
 
     // Meets the neighbours of the vertex at a place, unless they were met.
@@ -238,7 +161,6 @@ impl Search {
         if place < self.rounds {
             return Ok(());
         }
-        self.list_links(alloc, graph)?;
         go_round(alloc, graph, &self.links, &mut self.met, place, vertex)?;
         self.rounds = place + 1;
         Ok(())

@@ -109,7 +109,8 @@ fn derive(
         (λ rules. IsDerivationOfAll (graph_of graph.now) rights x y rules.items)) }
 {
     let mut search = Search::from(alloc, graph, x)?;
-    if lacks_holder(graph, rights, y, search.looks_paid()) {
+    // a look at a short row takes no longer than to list a link
+    if lacks_holder(graph, rights, y, search.link_count()) {
         return Ok(None);
     }
     let mut rules = Vec::new(alloc);

@@ -21,25 +21,20 @@ pub(crate) fn named(rights: Rights) -> Rights
 // A row of so few edges is short: a look at it goes through its edges one by one.
 const SHORT_ROW: usize = 8;
 
-// A look at a longer row, or for a name that rows do not share, takes as long as so many at short rows.
+// A look at a longer row, at one with names of its own, or for a name that rows do not share takes as long as
+// so many at short rows.
 const LONG_LOOK: usize = 8;
 
-// What a look at the row of a position takes, in looks at short rows, for a name whose number is known or not.
+// What a look at the row of a position takes, in looks at short rows, for a name whose number is known or
+// not.
 fn cost_of_look(graph: &Graph, position: usize, is_numbered: bool) -> usize {
-    if is_numbered && graph.row_len(position) <= SHORT_ROW {
+    let edge_count = graph.row_len(position);
+    let is_short = edge_count <= SHORT_ROW && graph.open_row(position).is_some();
+    if edge_count == 0 || is_numbered && is_short {
         1
     } else {
         LONG_LOOK
     }
-}
-
-/// What a look at each row takes, in looks at short rows, where the number of the name is known.
-pub(crate) fn cost_of_looks(graph: &Graph) -> usize {
-    let mut cost: usize = 0;
-    for position in 0..graph.len() {
-        cost = cost.saturating_add(cost_of_look(graph, position, true));
-    }
-    cost
 }
 
 /// Whether some right of the set was seen to be held over y by no vertex: then no list of rules gives it

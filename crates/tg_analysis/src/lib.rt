@@ -32,7 +32,6 @@ mod made_graphs;
 mod memory_tests;
 mod met;
 mod moves;
-mod near_rows;
 mod numbering;
 mod positions;
 #[cfg(test)]

@@ -79,7 +79,7 @@ fn fill_row(graph: &mut Graph, x: Name) {
     }
 }
 
-// The same with more than four edges a vertex.
+// The same with many edges a vertex.
 fn wide_hub(alloc: Global) -> Result<Graph, Fail> {
     let mut graph = hub(alloc)?;
     for number in 0..HUB_SIZE {

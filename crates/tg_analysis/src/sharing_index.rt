@@ -183,8 +183,8 @@ impl SharingIndex {
         }
     }
 
-    // Lists the edges, if they may be listed and that is due. Where memory is refused, they are due again after
-    // as many looks.
+    // Lists the edges, if they may be listed and that is due. Where memory is refused, they are due again
+    // after as many looks.
     fn list_edges(&mut self, alloc: Global, graph: &Graph)
         requires { IsIndexOf graph.now self.old }
         ensures index { IsIndexOf graph.now self.new }

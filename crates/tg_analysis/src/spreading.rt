@@ -147,7 +147,13 @@ impl Spread {
         Ok(())
     }
 
-    // Goes on until it has done so much work, unless no right is missing or nothing is left to follow before.
+    // How many positions were met: those that were taken, and those that wait.
+    fn met_count(&self) -> usize {
+        self.followed.saturating_add(self.flood.waiting.len())
+    }
+
+    // Goes on until so many positions were met, unless no right is missing or nothing is left to follow
+    // before.
     fn run_for(
         &mut self,
         graph: &Graph,
@@ -163,9 +169,8 @@ impl Spread {
         ensures spread { OnOk result (IsTrue (is_empty_set self.new.missing)
             ⊎ GoesOn graph.now asked.now self.new.missing self.old self.new) }
     {
-        let due = work.saturating_add(most);
         for _ in 0..graph.len() {
-            if *work >= due || !self.step(graph, asked, work)? {
+            if self.met_count() >= most || !self.step(graph, asked, work)? {
                 return Ok(());
             }
         }
@@ -238,12 +243,15 @@ impl Spread {
             return false;
         }
         *has_looked = true;
-        *work = work.saturating_add(graph.len());
-        lacks_holder(graph, self.missing, asked.y, graph.len())
+        let lacks = lacks_holder(graph, self.missing, asked.y, graph.len());
+        if lacks {
+            *work = work.saturating_add(graph.len());
+        }
+        lacks
     }
 
-    // Goes on until no right is missing, or nothing is left to follow; where that takes more work than there
-    // are vertices, which is as much as looks at as many short rows take, only if it is not hopeless. It says
+    // Goes on until no right is missing, or nothing is left to follow; where half of the positions were met
+    // before that, which takes longer than looks at as many short rows, only if it is not hopeless. It says
     // whether it is.
     fn go_on(
         &mut self,
@@ -262,7 +270,7 @@ impl Spread {
             (IsTrue (is_empty_set self.new.missing)
             ⊎ RunsOut graph.now asked.now self.new.missing self.old self.new)) }
     {
-        self.run_for(graph, asked, graph.len(), work)?;
+        self.run_for(graph, asked, graph.len() / 2, work)?;
         if self.missing.is_empty() {
             return Ok(false);
         }
