@@ -16,12 +16,28 @@ use tg_graph::Graph;
 use tg_store::{Hall, StoreFault};
 use tg_text::{Script, ScriptLine, write_graph_behind};
 
+// No line of an outcome is longer.
+const LONGEST_LINE: usize = 128;
+
+// Makes room for the line of an outcome. Where that is refused while sessions of the hall know something from
+// earlier questions, they give it up, and room is asked for once more.
+fn make_room(text: &mut Vec<u8>, hall: &mut Hall)
+    ensures text { text.new.items ≡ text.old.items }
+    ensures hall { hall.new ≡ hall.old }
+{
+    if text.reserve(LONGEST_LINE).is_err() && hall.give_up_known() {
+        // what is refused once more is refused to the line as well
+        let _ = text.reserve(LONGEST_LINE);
+    }
+}
+
 // Carries out an event, and appends the line of its outcome.
 fn play_event(text: &mut Vec<u8>, hall: &mut Hall, event: &ScriptLine) -> Result<(), AllocError>
     requires { IsPlayable (length hall.old.seats) event.now }
     ensures { IfOk result (λ _. PlaysOn hall.old event.now text.old.items text.new.items hall.new) }
 {
     let answer = hall.act(event.seat, &event.act);
+    make_room(text, hall);
     append_line(text, event, &answer)?;
     Ok(())
 }
@@ -59,6 +75,8 @@ fn played(alloc: Global, graph: &Graph, script: &Script) -> Result<Report, Alloc
 {
     let mut hall = hall_for(alloc, graph, script)?;
     let mut bytes = play_all(alloc, &mut hall, &script.lines)?;
+    // what open sessions know is of no more use
+    let _ = hall.give_up_known();
     bytes.extend_from_slice(b"graph\n")?;
     Ok(Report {
         bytes: write_graph_behind(bytes, &hall.last()?)?,

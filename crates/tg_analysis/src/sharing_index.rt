@@ -11,7 +11,7 @@ use crate::by_target::EdgesByTarget;
 use crate::edge_counts::edge_count;
 use crate::numbering::Islands;
 use crate::questions::AskFault;
-use crate::spreading::{Asked, search_island};
+use crate::spreading::{Asked, holds_near, search_island};
 use crate::{joining, laws};
 use std::alloc::{AllocError, Global};
 use std::marker::Model;
@@ -22,6 +22,10 @@ const SHARE: usize = 2;
 
 // A pass over a number for each vertex takes at least as long as to look at so small a part of their rows.
 const PASS: usize = 64;
+
+// Where there are so many edges a vertex, most rows may be long, and a look at each of them takes longer than a
+// short search.
+const LONG_ROWS: usize = 8;
 
 /// What is known of a graph from the questions about sharing that it was asked: first nothing, then its
 /// islands, and last its edges by their targets.
@@ -203,6 +207,24 @@ impl SharingIndex {
         }
     }
 
+    // Whether a short search from x finds a holder, where else each row would be looked at and most may be
+    // long. Where memory is refused, it finds none.
+    fn finds_near(&mut self, alloc: Global, graph: &Graph, right: Right, x: Name, y: Name) -> bool
+        requires source { has_vertex (graph_of graph.now) x ≡ true }
+        requires target { has_vertex (graph_of graph.now) y ≡ true }
+        ensures yes { IsTrue result → CanShare (graph_of graph.now) right x y }
+        ensures same { self.new ≡ self.old }
+    {
+        if self.edges.is_some() || self.edge_count(graph) / LONG_ROWS < graph.len() {
+            return false;
+        }
+        let rights = Rights::of(right);
+        match holds_near(alloc, graph, &Asked { rights, x, y }) {
+            Ok(found) => found,
+            Err(AllocError) => false,
+        }
+    }
+
     // Whether some list of rules gives x the right over y, by the islands.
     fn answer(&mut self, graph: &Graph, right: Right, x: Name, y: Name) -> bool
         requires index { IsIndexOf graph.now self.old }
@@ -262,6 +284,9 @@ impl SharingIndex {
             return Ok(self.search(alloc, graph, right, x, y)?);
         }
         self.list_edges(alloc, graph);
+        if self.finds_near(alloc, graph, right, x, y) {
+            return Ok(true);
+        }
         Ok(self.answer(graph, right, x, y))
     }
 }

@@ -152,13 +152,14 @@ impl Spread {
         self.followed.saturating_add(self.flood.waiting.len())
     }
 
-    // Goes on until so many positions were met, unless no right is missing or nothing is left to follow
-    // before.
+    // Goes on until so many positions were met or the work has come to so much, unless no right is missing
+    // or nothing is left to follow before.
     fn run_for(
         &mut self,
         graph: &Graph,
         asked: &Asked,
         most: usize,
+        due: usize,
         work: &mut usize,
     ) -> Result<(), AllocError>
         requires graph { IsGraph graph.now }
@@ -170,7 +171,8 @@ impl Spread {
             ⊎ GoesOn graph.now asked.now self.new.missing self.old self.new) }
     {
         for _ in 0..graph.len() {
-            if self.met_count() >= most || !self.step(graph, asked, work)? {
+            let is_enough = self.met_count() >= most || *work >= due;
+            if is_enough || !self.step(graph, asked, work)? {
                 return Ok(());
             }
         }
@@ -270,7 +272,7 @@ impl Spread {
             (IsTrue (is_empty_set self.new.missing)
             ⊎ RunsOut graph.now asked.now self.new.missing self.old self.new)) }
     {
-        self.run_for(graph, asked, graph.len() / 2, work)?;
+        self.run_for(graph, asked, graph.len() / 2, usize::MAX, work)?;
         if self.missing.is_empty() {
             return Ok(false);
         }
@@ -392,4 +394,30 @@ pub fn island_holds(alloc: Global, graph: &Graph, asked: &Asked) -> Result<bool,
     let mut work = 0;
     let found = search_island(alloc, graph, asked, &mut work)?;
     Ok(found)
+}
+
+/// Whether some list of rules was seen to give x each right of the set over y: a search from x, which follows
+/// links in their own direction, has found holders before its work came to half as much as there are vertices.
+///
+/// The one error is want of memory.
+pub fn holds_near(alloc: Global, graph: &Graph, asked: &Asked) -> Result<bool, AllocError>
+    requires named { IsNamed asked.now.rights }
+    requires source { has_vertex (graph_of graph.now) asked.now.x ≡ true }
+    requires target { has_vertex (graph_of graph.now) asked.now.y ≡ true }
+    ensures { IfOk result
+        (λ found. IsTrue found
+        → CanShareAll (graph_of graph.now) asked.now.rights asked.now.x asked.now.y) }
+{
+    laws::together();
+    let count = graph.len();
+    match graph.position(asked.x) {
+        Some(start) => {
+            let likely = graph.likely_number(asked.y);
+            let mut spread = Spread::from(alloc, count, start, asked.rights, likely)?;
+            let mut work = 0;
+            spread.run_for(graph, asked, count, count / 2, &mut work)?;
+            Ok(spread.missing.is_empty())
+        }
+        None => Ok(false),
+    }
 }

@@ -247,8 +247,9 @@ impl Hall {
         }
     }
 
-    /// Gives up what the open sessions know of their graphs from earlier questions, and says whether that took
-    /// memory. No answer hangs on it, and nothing that the hall stands for changes: it makes room.
+    /// Gives up what the open sessions know of their graphs from earlier questions, and says whether that
+    /// took memory. No answer hangs on it, and nothing that the hall stands for changes: it makes room, also
+    /// for what is asked of the hall next, such as `last`.
     pub fn give_up_known(&mut self) -> bool
         ensures { self.new ≡ self.old }
     {

@@ -12,8 +12,9 @@ use tg_analysis::{AskFault, SharingIndex};
 use tg_graph::{Draft, Graph, Name, Reply, Right, Step};
 
 /// What a session knows of the graph that its draft stands for, from the questions about sharing that came
-/// before, until a rule is carried out: the islands, once they are found, 8 bytes a vertex. It lists no edges
-/// and keeps no graph, so that many open sessions together keep little beside the graphs of their seats.
+/// before, until a rule is carried out, a record is taken in or the session ends: the islands, once they are
+/// found, 8 bytes a vertex. It lists no edges and keeps no graph, so that many open sessions together keep
+/// little beside the graphs of their seats.
 #[derive(Drop)]
 pub enum Known {
     /// The draft changes nothing, and the index is that of the base.
@@ -118,8 +119,8 @@ impl Known {
     /// Answers whether x can come to have a right over y, which are vertices. What is found on the way is
     /// known from then on.
     ///
-    /// Where memory is refused while something is known, that is given up, and the question is tried once more.
-    /// An error leaves nothing known.
+    /// Where memory is refused while something is known, that is given up, and the question is tried once
+    /// more. An error leaves nothing known.
     pub fn reply(
         &mut self,
         alloc: Global,

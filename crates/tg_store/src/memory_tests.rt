@@ -130,7 +130,7 @@ fn refused_events(rt: HostRuntime) {
     assert!(rt; hall.taken(2) == Some(1));
 }
 
-// What a session asks before its first rule, and after each. It finds islands and lists edges in between.
+// What a session asks before its first rule, and after each. It finds islands in between.
 #[test]
 fn refused_questions(rt: HostRuntime) {
     let mut hall = opened(&rt, rt.alloc());

@@ -136,8 +136,7 @@ fn is_accepted(base: &Graph, draft: &Draft, rule: &Rule) -> bool
     draft.check(base, rule).is_ok() && !lacks_room(base, draft, rule)
 }
 
-// Gives up what is known of the draft before a rule is carried out: no row has another owner when the rule
-// changes it, and no memory is kept from it.
+// Gives up what is known of the draft before a rule is carried out, so that no memory is kept from it.
 fn make_way(base: &Graph, draft: &Draft, known: &mut Known, rule: &Rule)
     requires fits { Fits base.now draft.now }
     requires named { IsNamed (rights_of rule.now) }

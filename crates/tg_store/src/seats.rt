@@ -108,8 +108,8 @@ impl OpenSession {
         }
     }
 
-    // Makes room for a step. Where there is none beside what is known, that is given up, and room is asked for
-    // once more. An error leaves nothing known.
+    // Makes room for a step. Where there is none beside what is known, that is given up, and room is asked
+    // for once more. An error leaves nothing known.
     fn make_room(&mut self) -> Result<(), AllocError>
         ensures kept { self.new.kept.items ≡ self.old.kept.items }
         ensures room { OnOk result (vec_len self.new.kept < vec_capacity self.new.kept) }
