@@ -70,6 +70,7 @@ impl FewPositions {
     }
 
     // The same positions in memory of their own, with room for so many more.
+    #[inline(never)]
     fn copied(&self, more: usize) -> Result<Vec<u32>, AllocError>
         ensures { IfOk result (λ many. many.items ≡ self.now) }
     {
