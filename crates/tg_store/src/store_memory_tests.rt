@@ -240,13 +240,19 @@ fn refused_meeting(rt: HostRuntime) -> Result<(), Fail> {
     Ok(())
 }
 
-// Asks twice whether a can come to have w over c, which nobody has.
+// Asks whether a can come to have w over c, which nobody has.
+fn asked(rt: &impl Abort, session: &mut Session) -> Result<Reply, AllocError>
+    ensures { session.new.seat ≡ session.old.seat }
+{
+    session.step(step_of(rt, Deed::Share(Right::W, *b"ac")))
+}
+
+// Asks twice.
 fn ask_twice(rt: &impl Abort, session: &mut Session)
     ensures { session.new.seat ≡ session.old.seat }
 {
-    let step = step_of(rt, Deed::Share(Right::W, *b"ac"));
-    let _ = session.step(step);
-    let _ = session.step(step);
+    let _ = asked(rt, session);
+    let _ = asked(rt, session);
 }
 
 // Asks until something is known, also where memory is refused for it once.
@@ -263,12 +269,11 @@ fn ask_until_it_knows(rt: &impl Abort, session: &mut Session)
 fn answered(rt: &impl Abort, session: &mut Session)
     ensures { session.new.seat ≡ session.old.seat }
 {
-    let step = step_of(rt, Deed::Share(Right::W, *b"ac"));
     let knew = session.knows_any();
-    if session.step(step).is_err() {
+    if asked(rt, session).is_err() {
         assert!(rt; !knew);
         assert!(rt; !session.knows_any());
-        assert!(rt; session.step(step) == Ok(Reply::No));
+        assert!(rt; asked(rt, session) == Ok(Reply::No));
     }
 }
 
