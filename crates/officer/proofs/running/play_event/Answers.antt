@@ -1,4 +1,6 @@
-use Rattle.std.proofs.Common.{refl}
+use Rattle.std.proofs.Common.{length, refl, sym, ap, subst, ◌++◌, ◌∙◌}
+use Rattle.tg_store.specs.Acts.{Acts}
+use Rattle.tg_store.specs.Worlds.{World}
 use Rattle.officer.specs.Runs.{outcome_line}
 use Rattle.officer.proofs.ActLemmas.{acts_keep, acts_told}
 use Rattle.officer.proofs.running.play_event.Goals as goal
@@ -12,9 +14,11 @@ pub returns : goal.returns
 returns c =
     let event = c.args.event.now in
     let done = c.act-answer in
+    let line = outcome_line event done.result in
+    let same = c.make_room.ensures.hall in
     record {
-      line = outcome_line event done.result;
-      outcome = record { answer = done.result; act = done.ensures; told = c.in_ok-append_line.ensures.told; written = refl };
-      added = c.in_ok-append_line.ensures.appended;
-      seats = (acts_keep c.args.hall.now done.new.self event.seat event.act done.result done.ensures).seats;
+      line = line;
+      outcome = record { answer = done.result; act = subst (λ (w : World). Acts c.args.hall.now event.seat event.act done.result w) (sym same) done.ensures; told = c.in_ok-append_line.ensures.told; written = refl };
+      added = c.in_ok-append_line.ensures.appended ∙ ap (λ items. items ++ line) c.make_room.ensures.text;
+      seats = ap (λ (w : World). length w.seats) same ∙ (acts_keep c.args.hall.now done.new.self event.seat event.act done.result done.ensures).seats;
     }
