@@ -102,12 +102,12 @@ fn an_index_knows_no_stranger(rt: HostRuntime) -> Result<(), Fail> {
     Ok(())
 }
 
-// Of each two vertices, four times over, whether an index of islands alone says the same, and has listed no
-// edges.
+// Of each two of the first eight vertices, four times over, whether an index of islands alone says the same,
+// and has listed no edges.
 fn assert_alone_agrees(rt: &impl Abort, alloc: Global, graph: &Graph, right: Right) {
     let mut index = SharingIndex::of_islands_alone();
-    for pair in 0..4 * graph.len() * graph.len() {
-        let (i, j) = (pair / graph.len() % graph.len(), pair % graph.len());
+    for pair in 0..256_usize {
+        let (i, j) = (pair / 8 % 8, pair % 8);
         if let (Some(x), Some(y)) = (graph.name_at(i), graph.name_at(j)) {
             let answer = index.can_share(alloc, graph, right, x, y);
             assert!(rt; answer == shares(alloc, graph, right, x, y));
