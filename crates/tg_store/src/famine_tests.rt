@@ -113,3 +113,79 @@ fn a_rule_after_a_question(rt: HostRuntime) -> Result<(), Fail> {
     }
     Ok(())
 }
+
+// Whether the row as an event is refused memory.
+fn is_refused(rt: &impl process::Abort, hall: &mut Hall, row: &Row) -> bool {
+    let (seat, deed, word) = *row;
+    let reply = hall.step(event_of(rt, seat, deed));
+    let refused = reply == HallReply::Refused(HallFault::Memory);
+    assert!(rt; refused || reply == reply_of(rt, word));
+    refused
+}
+
+// What refuses the first hall refuses the second one right after it.
+fn refused_alike(rt: &impl process::Abort, first: &mut Hall, second: &mut Hall, rows: &[Row]) {
+    for row in rows {
+        if is_refused(rt, first, row) {
+            assert!(rt; is_refused(rt, second, row));
+            return;
+        }
+        if is_refused(rt, second, row) {
+            return;
+        }
+    }
+}
+
+// A hall whose session has asked the same questions and knows something, or nothing any more, where memory
+// was not refused.
+fn asked(rt: &impl process::Abort, hall: &mut Hall, knows: bool) -> bool {
+    let rows = [
+        (1, Begin, Done),
+        (1, Share(Right::W, *b"ac"), No),
+        (1, Share(Right::W, *b"ac"), No),
+        (1, Share(Right::W, *b"ac"), No),
+    ];
+    if !is_set_up(rt, hall, &rows) {
+        return false;
+    }
+    if !knows {
+        hall.give_up_known();
+    }
+    hall.knows_any() == knows
+}
+
+// A session that knows something is refused memory where one is that knows nothing.
+#[test]
+fn a_session_that_knows_after_one_that_does_not(rt: HostRuntime) -> Result<(), Fail> {
+    let mut knowing = hall_of_three(&rt, rt.alloc(), 4, 1)?;
+    let mut other = hall_of_three(&rt, rt.alloc(), 4, 1)?;
+    let rows = [
+        (1, Take(*b"abc", b"r"), Did),
+        (1, Remove(*b"bc", b"r"), Did),
+        (1, PutOnce, Put(0)),
+    ];
+    if asked(&rt, &mut knowing, true) && asked(&rt, &mut other, false) {
+        refused_alike(&rt, &mut other, &mut knowing, &rows);
+    }
+    Ok(())
+}
+
+// And nowhere else, at no question either.
+#[test]
+fn a_session_that_knows_before_one_that_does_not(rt: HostRuntime) -> Result<(), Fail> {
+    let mut knowing = hall_of_three(&rt, rt.alloc(), 4, 1)?;
+    let mut other = hall_of_three(&rt, rt.alloc(), 4, 1)?;
+    let rows = [
+        (1, Share(Right::E, *b"ab"), No),
+        (1, Take(*b"abc", b"r"), Did),
+        (1, Share(Right::E, *b"ab"), No),
+        (1, Share(Right::E, *b"ab"), No),
+        (1, Share(Right::E, *b"ab"), No),
+        (1, Remove(*b"bc", b"r"), Did),
+        (1, PutOnce, Put(0)),
+    ];
+    if asked(&rt, &mut knowing, true) && asked(&rt, &mut other, false) {
+        refused_alike(&rt, &mut knowing, &mut other, &rows);
+    }
+    Ok(())
+}

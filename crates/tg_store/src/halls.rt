@@ -256,6 +256,12 @@ impl Hall {
         seats::give_up_all(self.seats.as_mut_slice())
     }
 
+    /// Whether some open session knows something that takes memory.
+    #[cfg(test)]
+    pub(crate) fn knows_any(&self) -> bool {
+        self.seats.iter().any(|seat| seat.knows_any())
+    }
+
     // One event, which is tried once.
     fn try_event(&mut self, event: &Event) -> HallReply
         requires { IsStageable event.now }

@@ -206,3 +206,84 @@ fn refused_in_a_run(rt: HostRuntime) {
     assert!(rt; begun == HallReply::Done || is_refused_memory(begun));
     assert!(rt; hall.len() == if put == HallReply::Put(0) { 1 } else { 0 });
 }
+
+// The first seat puts a session that creates b, and opens another, which asks until it knows something, also
+// where memory is refused for it once.
+fn know(rt: &impl Abort, hall: &mut Hall) {
+    let rows = [
+        (1, Begin, Done),
+        (1, Create(*b"ab", b"tr"), Did),
+        (1, PutOnce, Put(0)),
+        (1, Begin, Done),
+    ];
+    happen(rt, hall, &rows);
+    for _ in 0..4 {
+        happened(rt, hall, &(1, Share(Right::W, *b"ab"), No));
+    }
+    assert!(rt; hall.knows_any());
+}
+
+// Whether memory was refused at the second seat, which it never is while the first one knows something.
+fn is_refused_beside(rt: &impl Abort, knew: bool, reply: HallReply) -> bool {
+    let refused = is_refused_memory(reply);
+    assert!(rt; !(refused && knew));
+    refused
+}
+
+#[test]
+fn events_beside_a_session_that_knows(rt: HostRuntime) {
+    let mut hall = opened(&rt, rt.alloc());
+    know(&rt, &mut hall);
+    let rows = [
+        (2, Learn, Learned(0)),
+        (2, Begin, Done),
+        (2, Create(*b"bc", b"r"), Did),
+        (2, Share(Right::W, *b"bc"), No),
+        (2, PutOnce, Put(1)),
+    ];
+    for row in &rows {
+        let (seat, deed, word) = *row;
+        let knew = hall.knows_any();
+        let reply = hall.step(event_of(&rt, seat, deed));
+        if is_refused_beside(&rt, knew, reply) {
+            happened(&rt, &mut hall, row);
+        } else {
+            assert!(rt; reply == reply_of(&rt, word));
+        }
+    }
+}
+
+#[test]
+fn an_act_beside_a_session_that_knows(rt: HostRuntime) {
+    let mut hall = opened(&rt, rt.alloc());
+    know(&rt, &mut hall);
+    let knew = hall.knows_any();
+    let reply = hall.act(2, &act_of(&rt, Begin));
+    assert!(rt; !is_refused_beside(&rt, knew, reply));
+    assert!(rt; hall.taken(2) == Some(1));
+}
+
+#[test]
+fn a_run_beside_a_session_that_knows(rt: HostRuntime) {
+    let mut hall = opened(&rt, rt.alloc());
+    know(&rt, &mut hall);
+    let knew = hall.knows_any();
+    let ran = hall
+        .run(&[event_of(&rt, 2, Begin), event_of(&rt, 2, Learn)])
+        .is_ok();
+    assert!(rt; ran || !knew);
+}
+
+// A put that is refused gives up what the session knows.
+#[test]
+fn a_refused_put_after_questions(rt: HostRuntime) {
+    let mut hall = opened(&rt, rt.alloc());
+    know(&rt, &mut hall);
+    let reply = hall.step(event_of(&rt, 1, PutOnce));
+    assert!(rt; !hall.knows_any());
+    if is_refused_memory(reply) {
+        happened(&rt, &mut hall, &(1, PutOnce, Put(1)));
+    } else {
+        assert!(rt; reply == HallReply::Put(1));
+    }
+}

@@ -87,6 +87,12 @@ impl Session {
         seat
     }
 
+    /// Whether it knows something that takes memory.
+    #[cfg(test)]
+    pub(crate) fn knows_any(&self) -> bool {
+        self.staged.known.knows_any()
+    }
+
     // The same session, which knows nothing that takes memory.
     fn unknowing(self) -> Session
         ensures { result ≡ self }

@@ -202,6 +202,15 @@ impl SeatState {
         took_memory
     }
 
+    /// Whether the open session knows something that takes memory.
+    #[cfg(test)]
+    pub(crate) fn knows_any(&self) -> bool {
+        match &self.session {
+            Some(session) => session.known.knows_any(),
+            None => false,
+        }
+    }
+
     // Lends its graph, and has the empty one meanwhile.
     fn lend_graph(&mut self) -> Graph
         ensures graph { result ≡ self.old.graph }

@@ -239,3 +239,84 @@ fn refused_meeting(rt: HostRuntime) -> Result<(), Fail> {
     rests_on_the_creation(&rt, &one);
     Ok(())
 }
+
+// Asks whether a can come to have w over c, which nobody has.
+fn asked(rt: &impl Abort, session: &mut Session) -> Result<Reply, AllocError>
+    ensures { session.new.seat ≡ session.old.seat }
+{
+    session.step(step_of(rt, Deed::Share(Right::W, *b"ac")))
+}
+
+// Asks twice.
+fn ask_twice(rt: &impl Abort, session: &mut Session)
+    ensures { session.new.seat ≡ session.old.seat }
+{
+    let _ = asked(rt, session);
+    let _ = asked(rt, session);
+}
+
+// Asks until something is known, also where memory is refused for it once.
+fn ask_until_it_knows(rt: &impl Abort, session: &mut Session)
+    ensures { session.new.seat ≡ session.old.seat }
+{
+    ask_twice(rt, session);
+    ask_twice(rt, session);
+    assert!(rt; session.knows_any());
+}
+
+// A question is answered, whichever request is refused, where the session knows something. Where it is
+// refused, nothing is known.
+fn answered(rt: &impl Abort, session: &mut Session)
+    ensures { session.new.seat ≡ session.old.seat }
+{
+    let knew = session.knows_any();
+    if asked(rt, session).is_err() {
+        assert!(rt; !knew);
+        assert!(rt; !session.knows_any());
+        assert!(rt; asked(rt, session) == Ok(Reply::No));
+    }
+}
+
+// More questions than there is room for at first.
+fn answered_often(rt: &impl Abort, session: &mut Session) {
+    for _ in 0..9 {
+        answered(rt, session);
+    }
+}
+
+#[test]
+fn questions_of_a_session_that_knows(rt: HostRuntime) {
+    let (store, one, _two) = opened_on_four(&rt, rt.alloc());
+    let mut session = begun(&rt, &store, one);
+    ask_until_it_knows(&rt, &mut session);
+    answered_often(&rt, &mut session);
+}
+
+// A rule gives up what is known, also where it is refused.
+#[test]
+fn questions_after_a_rule(rt: HostRuntime) {
+    let (store, one, _two) = opened_on_four(&rt, rt.alloc());
+    let mut session = begun(&rt, &store, one);
+    ask_until_it_knows(&rt, &mut session);
+    let staged = creates(&rt, &mut session);
+    assert!(rt; !session.knows_any());
+    assert!(rt; staged || creates(&rt, &mut session));
+    ask_until_it_knows(&rt, &mut session);
+    answered_often(&rt, &mut session);
+}
+
+// A commit that is refused gives up what is known.
+#[test]
+fn a_refused_commit_after_questions(rt: HostRuntime) {
+    let (store, one, _two) = opened_on_four(&rt, rt.alloc());
+    let mut session = begun(&rt, &store, one);
+    ask_until_it_knows(&rt, &mut session);
+    match store.commit(session) {
+        Committed::Done(_, receipt) => assert!(rt; receipt.place == 0),
+        Committed::Again(session) => {
+            assert!(rt; !session.knows_any());
+            assert!(rt; committed(&rt, &store, session, 0).taken() == 1);
+        }
+        Committed::Refused(_, _) => panic!(rt; "refused"),
+    }
+}
