@@ -23,8 +23,8 @@ const SHARE: usize = 2;
 // A pass over a number for each vertex takes at least as long as to look at so small a part of their rows.
 const PASS: usize = 64;
 
-// Where there are so many edges a vertex, most rows may be long, and a look at each of them takes longer than a
-// short search.
+// Where there are so many edges a vertex, most rows may be long, and a look at each of them takes longer than
+// a short search.
 const LONG_ROWS: usize = 8;
 
 /// What is known of a graph from the questions about sharing that it was asked: first nothing, then its

@@ -396,8 +396,9 @@ pub fn island_holds(alloc: Global, graph: &Graph, asked: &Asked) -> Result<bool,
     Ok(found)
 }
 
-/// Whether some list of rules was seen to give x each right of the set over y: a search from x, which follows
-/// links in their own direction, has found holders before its work came to half as much as there are vertices.
+/// Whether some list of rules was seen to give x each right of the set over y: a search from x, which
+/// follows links in their own direction, has found holders before its work came to half as much as there
+/// are vertices.
 ///
 /// The one error is want of memory.
 pub fn holds_near(alloc: Global, graph: &Graph, asked: &Asked) -> Result<bool, AllocError>

@@ -38,8 +38,8 @@ impl Slot {
         Slot { bits: 0 }
     }
 
-    // The mark of a name that spreads to this, one of 1 to 255. It is taken from the low half, as slots are told
-    // by the high one alone: so names at one slot differ in it as others do, however many there are.
+    // The mark of a name that spreads to this, one of 1 to 255. It is taken from the low half, as slots are
+    // told by the high one alone: so names at one slot differ in it as others do, however many there are.
     fn mark(spread: u64) -> u32 {
         let low = spread & 0xffff_ffff;
         (low.wrapping_mul(255) >> 32) as u32 + 1
