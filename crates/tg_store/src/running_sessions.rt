@@ -87,6 +87,15 @@ impl Session {
         seat
     }
 
+    /// Gives up what the session knows of its graph from earlier questions, and says whether that took
+    /// memory. No answer hangs on it, and steps and seat stay: it makes room for whatever its thread asks
+    /// for next.
+    pub fn give_up_known(&mut self) -> bool
+        ensures { self.new ≡ self.old }
+    {
+        self.staged.give_up()
+    }
+
     /// Whether it knows something that takes memory.
     #[cfg(test)]
     pub(crate) fn knows_any(&self) -> bool {

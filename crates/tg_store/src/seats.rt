@@ -108,6 +108,16 @@ impl OpenSession {
         }
     }
 
+    /// Gives up what is known, and says whether that took memory.
+    pub(crate) fn give_up(&mut self) -> bool
+        ensures value { self.new ≡ unknowing self.old }
+        ensures on { (base : Entries) → IsSessionOn base self.old → IsSessionOn base self.new }
+    {
+        let took_memory = self.known.knows_any();
+        self.known.give_up();
+        took_memory
+    }
+
     // Makes room for a step. Where there is none beside what is known, that is given up, and room is asked
     // for once more. An error leaves nothing known.
     fn make_room(&mut self) -> Result<(), AllocError>
@@ -119,10 +129,9 @@ impl OpenSession {
         if self.kept.reserve(1).is_ok() {
             return Ok(());
         }
-        if !self.known.knows_any() {
+        if !self.give_up() {
             return Err(AllocError);
         }
-        self.known.give_up();
         self.kept.reserve(1)
     }
 

@@ -305,6 +305,19 @@ fn questions_after_a_rule(rt: HostRuntime) {
     answered_often(&rt, &mut session);
 }
 
+// What is known is given up where that is asked for, and the session goes on.
+#[test]
+fn a_session_gives_up_what_it_knows(rt: HostRuntime) {
+    let (store, one, _two) = opened_on_four(&rt, rt.alloc());
+    let mut session = begun(&rt, &store, one);
+    assert!(rt; !session.give_up_known());
+    ask_until_it_knows(&rt, &mut session);
+    assert!(rt; session.give_up_known());
+    assert!(rt; !session.knows_any());
+    assert!(rt; !session.give_up_known());
+    answered_often(&rt, &mut session);
+}
+
 // A commit that is refused gives up what is known.
 #[test]
 fn a_refused_commit_after_questions(rt: HostRuntime) {
