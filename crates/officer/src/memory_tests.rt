@@ -2,14 +2,20 @@
 // call was refused memory, its second try has it.
 use crate::fetch::{FetchFault, fetch};
 use crate::outcome::Report;
+use crate::outcome_lines::LONGEST_LINE;
 use crate::race::race;
 use crate::report::{report, report_of_texts};
 use crate::surroundings_tests::Zeros;
+use crate::turns::Player;
 use crate::words::Command;
-use std::alloc::AllocError;
+use crate::{race, running};
+use std::alloc::{AllocError, Global};
 use std::process::Abort;
 use std::test::Fail;
 use std::thread::Threads;
+use tg_graph::{Act, Name, Right, Step};
+use tg_store::{Begun, Hall, Store};
+use tg_text::read_graph;
 
 const GRAPH: &[u8] = b"vertex a\nvertex b\nvertex c\nedge a b g\nedge b c r\n";
 
@@ -120,6 +126,77 @@ fn refused_scripts(rt: HostRuntime) -> Result<(), Fail> {
         b"3 1 done\n4 1 done\n5 1 done 0\ngraph\nvertex a\nvertex b\nvertex c\nedge a b g\n",
     )?;
     Ok(())
+}
+
+// A question that is answered no.
+fn question() -> Option<Step> {
+    let (x, y) = (Name::parse(b"a").ok()?, Name::parse(b"c").ok()?);
+    let right = Right::W;
+    Some(Step::Share { right, x, y })
+}
+
+// A hall whose one session has asked four times: so it knows something, also where memory was refused for
+// that once.
+fn asking_hall(alloc: Global) -> Option<Hall> {
+    let graph = read_graph(alloc, GRAPH).ok()?;
+    let mut hall = Hall::new(alloc, &graph, 1, 1).ok()?;
+    let ask = Act::Stage(question()?);
+    let _ = hall.act(1, &Act::Begin);
+    for _ in 0..4 {
+        let _ = hall.act(1, &ask);
+    }
+    Some(hall)
+}
+
+fn hall_that_asked(rt: &impl Abort, alloc: Global) -> Hall {
+    match asking_hall(alloc) {
+        Some(hall) => hall,
+        None => asking_hall(alloc).expect(rt, "a hall"),
+    }
+}
+
+// A seat of a race whose session has asked likewise.
+fn asking_player(alloc: Global) -> Option<Player> {
+    let graph = read_graph(alloc, GRAPH).ok()?;
+    let (store, mut seats) = Store::start(alloc, &graph, 1, 1).ok()?;
+    let Begun::Session(mut session) = store.begin(seats.pop()?) else {
+        return None;
+    };
+    let ask = question()?;
+    for _ in 0..4 {
+        let _ = session.step(ask);
+    }
+    Some(Player::Open(session))
+}
+
+fn player_that_asked(rt: &impl Abort, alloc: Global) -> Player {
+    match asking_player(alloc) {
+        Some(player) => player,
+        None => asking_player(alloc).expect(rt, "a player"),
+    }
+}
+
+#[test]
+fn sessions_that_asked_know_something(rt: HostRuntime) {
+    assert!(rt; hall_that_asked(&rt, rt.alloc()).give_up_known());
+    assert!(rt; player_that_asked(&rt, rt.alloc()).give_up_known());
+}
+
+// A line finds room, whichever request is refused, beside sessions that know something.
+#[test]
+fn room_for_a_line_of_a_run(rt: HostRuntime) {
+    let mut hall = hall_that_asked(&rt, rt.alloc());
+    let mut text = Vec::new(rt.alloc());
+    running::make_room(&mut text, &mut hall);
+    assert!(rt; text.capacity() >= LONGEST_LINE);
+}
+
+#[test]
+fn room_for_a_line_of_a_race(rt: HostRuntime) {
+    let mut player = player_that_asked(&rt, rt.alloc());
+    let mut text = Vec::new(rt.alloc());
+    race::make_room(&mut text, &mut player);
+    assert!(rt; text.capacity() >= LONGEST_LINE);
 }
 
 #[test]

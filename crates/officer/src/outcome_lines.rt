@@ -9,6 +9,9 @@ use tg_graph::Name;
 use tg_store::{HallFault, HallReply};
 use tg_text::{ScriptLine, append_number, append_reply};
 
+/// No line of an outcome is longer.
+pub(crate) const LONGEST_LINE: usize = 128;
+
 // Appends words, and the number of a place.
 pub(crate) fn append_place(text: &mut Vec<u8>, words: &[u8], place: usize) -> Result<(), AllocError>
     ensures { OnOk result (text.new.items ≡ text.old.items ++ (words.now ++ decimal place)) }

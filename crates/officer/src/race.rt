@@ -15,6 +15,7 @@ ghost use Rattle.officer.specs.RaceParts.{AreStageable, TurnsOn, TurnsIf, IsFini
 
 use crate::inputs::{graph_in, script_in};
 use crate::outcome::{Halt, Report};
+use crate::outcome_lines::LONGEST_LINE;
 use crate::race_lines::{append_foreign, append_race_line};
 use crate::turns::{Player, turn};
 use std::alloc::{AllocError, Global};
@@ -33,6 +34,18 @@ pub(crate) struct Finished {
     pub text: Vec<u8>,
 }
 
+// Makes room for the line of an outcome. Where that is refused while the seat's open session knows something
+// from earlier questions, it gives that up, and room is asked for once more.
+pub(crate) fn make_room(text: &mut Vec<u8>, player: &mut Player)
+    ensures text { text.new.items ≡ text.old.items }
+    ensures player { player.new ≡ player.old }
+{
+    if text.reserve(LONGEST_LINE).is_err() && player.give_up_known() {
+        // what is refused once more is refused to the line as well
+        let _ = text.reserve(LONGEST_LINE);
+    }
+}
+
 // Has a seat do what an event says, and appends the line of the outcome.
 fn play_event(
     text: &mut Vec<u8>,
@@ -44,7 +57,8 @@ fn play_event(
     requires act { IsStageableAct event.now.act }
     ensures { IfOk result (TurnsOn player event.now text.old.items text.new.items) }
 {
-    let (player, answer) = turn(store, player, &event.act);
+    let (mut player, answer) = turn(store, player, &event.act);
+    make_room(text, &mut player);
     append_race_line(text, event, &answer)?;
     Ok(player)
 }

@@ -10,18 +10,15 @@ ghost use Rattle.officer.specs.Outcomes.{Makes, PlaysOn, IsPlayable, IsPlayableS
 
 use crate::inputs::{graph_in, script_in};
 use crate::outcome::{Halt, Report};
-use crate::outcome_lines::append_line;
+use crate::outcome_lines::{LONGEST_LINE, append_line};
 use std::alloc::{AllocError, Global};
 use tg_graph::Graph;
 use tg_store::{Hall, StoreFault};
 use tg_text::{Script, ScriptLine, write_graph_behind};
 
-// No line of an outcome is longer.
-const LONGEST_LINE: usize = 128;
-
 // Makes room for the line of an outcome. Where that is refused while sessions of the hall know something from
 // earlier questions, they give it up, and room is asked for once more.
-fn make_room(text: &mut Vec<u8>, hall: &mut Hall)
+pub(crate) fn make_room(text: &mut Vec<u8>, hall: &mut Hall)
     ensures text { text.new.items ≡ text.old.items }
     ensures hall { hall.new ≡ hall.old }
 {

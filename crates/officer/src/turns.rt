@@ -40,6 +40,16 @@ impl Player {
             Player::Open(session) => session.abort(),
         }
     }
+
+    /// Gives up what an open session knows from earlier questions, and says whether that took memory.
+    pub(crate) fn give_up_known(&mut self) -> bool
+        ensures { self.new ≡ self.old }
+    {
+        match self {
+            Player::Free(_) => false,
+            Player::Open(session) => session.give_up_known(),
+        }
+    }
 }
 
 // An event that is refused.
