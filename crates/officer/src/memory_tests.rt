@@ -1,5 +1,8 @@
 // Each test passes whichever one request for memory is refused, which `make refusals` tries. Where a
 // call was refused memory, its second try has it.
+ghost use Rattle.std.specs.Prelude.{IfSome};
+ghost use Rattle.tg_store.specs.StepWords.{IsNamedStep};
+
 use crate::fetch::{FetchFault, fetch};
 use crate::outcome::Report;
 use crate::outcome_lines::LONGEST_LINE;
@@ -13,7 +16,7 @@ use std::alloc::{AllocError, Global};
 use std::process::Abort;
 use std::test::Fail;
 use std::thread::Threads;
-use tg_graph::{Act, Name, Right, Step};
+use tg_graph::{Act, Name, Refusal, Right, Rule, Step};
 use tg_store::{Begun, Hall, Store};
 use tg_text::read_graph;
 
@@ -129,7 +132,9 @@ fn refused_scripts(rt: HostRuntime) -> Result<(), Fail> {
 }
 
 // A question that is answered no.
-fn question() -> Option<Step> {
+fn question() -> Option<Step>
+    ensures { IfSome result IsNamedStep }
+{
     let (x, y) = (Name::parse(b"a").ok()?, Name::parse(b"c").ok()?);
     let right = Right::W;
     Some(Step::Share { right, x, y })
@@ -157,6 +162,9 @@ fn hall_that_asked(rt: &impl Abort, alloc: Global) -> Hall {
 
 // A seat of a race whose session has asked likewise.
 fn asking_player(alloc: Global) -> Option<Player> {
+    // the check is told of the types inside a step and its reply by these
+    let _rule: Option<Rule> = None;
+    let _refusal: Option<Refusal> = None;
     let graph = read_graph(alloc, GRAPH).ok()?;
     let (store, mut seats) = Store::start(alloc, &graph, 1, 1).ok()?;
     let Begun::Session(mut session) = store.begin(seats.pop()?) else {
