@@ -1,7 +1,7 @@
 # make demo       proves and builds the program, and shows it on the file service of examples/
 # make examples   compares what each example prints with what is stored beside it
 # make pictures   draws the examples; wants Graphviz
-# make test       the merge gate, rt ci: about two hours on four processors from nothing; minutes where a
+# make test       the merge gate, rt ci: two to two and a half hours on four processors from nothing; minutes where a
 #                 toolchain keeps on its machine what it proved
 # make bodies     the wrong bodies alone, ten at once
 # make refusals   the memory tests with each request for memory refused in turn: seconds, once the
@@ -24,8 +24,9 @@ TILLS_APART = python3 $(TILLS).py --apart
 OPEN_KERNEL = echo 'edge nic_driver log_server g' | cat $(KERNEL).graph -
 LESS_OF_CLUSTER = $(foreach kind,groups secrets pods services events,--without '$(kind) *')
 
-# How many checks the gate runs side by side: one for each processor and each 5 GB of memory, which is the
-# most that one was seen to take. Left to itself, rt ci reckons with up to 9.5 GB, and leaves processors idle.
+# How many checks the gate runs side by side: one for each processor and each 5 GB of memory. One was seen to
+# take more, 7 GB (the tests of tg_store), and those beside it less. Left to itself, rt ci reckons with up to
+# 9.5 GB, and leaves processors idle.
 RT_JOBS ?= $(shell awk -v most=$$(nproc) '/^MemTotal/ { n = int($$2 / 5e6); print n < 1 ? 1 : n < most ? n : most }' /proc/meminfo)
 
 .PHONY: build demo examples pictures test bodies refusals man bench races hostile fuzz
