@@ -31,7 +31,7 @@ begun-goes_on s (begun.Refused t fault) h = h.0
 committed-goes_on : (s : RunningSession) (c : Committed) → CommitSays s c → GoesOn s.seat (seat_at (committed_player c))
 committed-goes_on s (committed.Done t receipt) h = h.0
 committed-goes_on s (committed.Refused t fault) h = h.0
-committed-goes_on s (committed.Again t) h = h.0
+committed-goes_on s (committed.Again t) h = h.0.0
 
 stages-goes_on : (s : RunningSession) (step : Step) (a : RaceReply) (q : Player) → Stages s step a q → GoesOn s.seat (seat_at q)
 stages-goes_on s step a q (inl h) = goes_to s.seat (Open (with_step s step h.0)) q h.3 (goes_on-refl s.seat)

@@ -1,5 +1,5 @@
 -- What the parts of a race's making bring.
-use Rattle.std.specs.Prelude.{◌≡◌, ◌⊎◌, ◌∷◌, ◌<◌, ⊤, ℕ, Bool, true, false, List, ◌++◌, All, IfOk, Ok, Result, length, map, slice_index_or}
+use Rattle.std.specs.Prelude.{◌≡◌, ◌⊎◌, ◌∷◌, ◌<◌, ⊤, ℕ, Bool, true, false, List, ◌++◌, All, IfOk, Ok, Some, Result, length, map, max, slice_get, slice_index_or}
 use Rattle.std.specs.List.{flat_map}
 use Rattle.std.specs.declared.alloc.AllocError.{AllocError}
 use Rattle.tg_text.specs.declared.script_text.ScriptLine.{ScriptLine}
@@ -8,8 +8,7 @@ use Rattle.tg_journal.specs.Lists.{Begins}
 use Rattle.tg_store.specs.declared.outcomes.StoreMeetFault.{StoreMeetFault}
 use Rattle.tg_store.specs.declared.outcomes.StoreMeetFault.TheVariants as meet
 use Rattle.tg_store.specs.Histories.{replay}
-use Rattle.tg_store.specs.Running.{RunningSeat, GoesOn}
-use Rattle.tg_store.specs.Outcomes.{FindsForeign}
+use Rattle.tg_store.specs.Running.{RunningSeat, IsSeat, GoesOn, PutsNothing}
 use Rattle.tg_store.specs.Acts.{IsStageableAct}
 use Rattle.officer.specs.declared.race.Finished.{Finished}
 use Rattle.officer.specs.declared.turns.Player.{Player}
@@ -18,7 +17,7 @@ use Rattle.officer.specs.declared.turns.RaceReply.{RaceReply}
 use Rattle.officer.specs.declared.turns.RaceReply.TheVariants.{Told, Foreign, Memory}
 use Rattle.officer.specs.Readings.{ReportText}
 use Rattle.officer.specs.Outcomes.{MayBeTold}
-use Rattle.officer.specs.Races.{seat_at, events_of, race_line, race_lines, taken_in, graph_report, foreign_report, Turns, TakesTurns}
+use Rattle.officer.specs.Races.{seat_at, events_of, race_line, race_lines, taken_in, graph_report, foreign_report, Turns, TakesTurns, HasFoundForeign}
 
 -- an event of a race may come to this
 abbrev pub MayBeToldInRace : RaceReply → Type 0
@@ -52,6 +51,7 @@ pub record IsFinished (events : List ScriptLine) (s : RunningSeat) (f : Finished
   pub player : Player
   pub played : HasPlayedTurns s (events_of s.pass.number events) f.text.items player
   pub end : f.seat ≡ seat_at player
+  pub seat : IsSeat f.seat
 
 -- each seat has done so, unless there was no memory for its text
 abbrev pub AreFinished : List ScriptLine → List RunningSeat → List (Result Finished AllocError) → Type 0
@@ -71,17 +71,44 @@ pub record EndsInFault (text : List ℕ) (fault : StoreMeetFault) (report : Repo
   pub is : fault ≡ meet.Foreign place
   pub says : report ≡ foreign_report text place
 
--- the end of a report, after the text of the outcomes
-abbrev pub EndsSo : List ℕ → List RunningSeat → RunningSeat → ReportText → Type 0
-EndsSo text others last report =
-    (All (λ (other : RunningSeat). Begins other.pass.seen (taken_in last)) others × (report ≡ graph_report text (replay (graph_of last.opening) (taken_in last))))
-    ⊎ ((place : ℕ) × FindsForeign place last × (report ≡ foreign_report text place))
+-- ---- the meetings
+-- the seat has met one other, and put nothing
+pub record MeetsOne (old other new : RunningSeat) : Type 0 where
+  pub met : Begins other.pass.seen (taken_in new)
+  pub all : new.taken ≡ length new.pass.seen
+  pub longer : length new.pass.seen ≡ max (length old.pass.seen) (length other.pass.seen)
 
--- The first seat goes on from where it was, and has met the others: the report ends with the graph that it has taken in. Or it found a record of its own number.
+-- it has met these others
+pub record MeetsAll (first : RunningSeat) (others : List RunningSeat) (last : RunningSeat) : Type 0 where
+  pub met : All (λ (other : RunningSeat). Begins other.pass.seen (taken_in last)) others
+  pub all : 0 < length others → last.taken ≡ length last.pass.seen
+  pub reached : (k : ℕ) × (s : RunningSeat) × (slice_get (first ∷ others) k ≡ Some s) × (last.pass.seen ≡ s.pass.seen)
+
+-- what a meeting with the other found, where it failed
+abbrev pub MeetingFound : StoreMeetFault → RunningSeat → RunningSeat → Type 0
+MeetingFound (meet.Foreign place) other new = HasFoundForeign place other new
+MeetingFound meet.Memory other new = ⊤
+
+-- what was found at one of the others
+pub record MeetingsFound (fault : StoreMeetFault) (others : List RunningSeat) (last : RunningSeat) : Type 0 where
+  pub index : ℕ
+  pub other : RunningSeat
+  pub is_other : slice_get others index ≡ Some other
+  pub found : MeetingFound fault other last
+
+-- the end of a report, after the text of the outcomes
+abbrev pub EndsSo : List ℕ → RunningSeat → List RunningSeat → RunningSeat → ReportText → Type 0
+EndsSo text first others last report =
+    (MeetsAll first others last × (report ≡ graph_report text (replay (graph_of last.opening) (taken_in last))))
+    ⊎ ((place : ℕ) × MeetingsFound (meet.Foreign place) others last × (report ≡ foreign_report text place))
+
+-- The first seat goes on from where it was, has put nothing, and has met the others: the report ends with the graph that it has taken in. Or it found a record of its own number.
 pub record EndsRace (text : List ℕ) (seats : List RunningSeat) (report : ReportText) : Type 0 where
   pub first : RunningSeat
   pub others : List RunningSeat
   pub are : seats ≡ first ∷ others
   pub last : RunningSeat
   pub goes_on : GoesOn first last
-  pub end : EndsSo text others last report
+  pub nothing_put : PutsNothing first last
+  pub seat : IsSeat last
+  pub end : EndsSo text first others last report

@@ -1,5 +1,5 @@
--- Races: each seat plays its events in a thread of its own, on a store that all of them share.
-use Rattle.std.specs.Prelude.{◌≡◌, ◌⊎◌, ◌==◌, ◌<◌, ℕ, ◌+◌, List, [], ◌∷◌, ◌++◌, All, Contains, codes, decimal, filter, length, slice_get, take, Some}
+-- Races: each seat plays its events, in a thread of its own where one can be started, on a store that all of them share.
+use Rattle.std.specs.Prelude.{◌≡◌, ◌⊎◌, ◌==◌, ◌<◌, ◌≤◌, ℕ, ◌+◌, List, [], ◌∷◌, ◌++◌, All, Contains, codes, decimal, filter, length, slice_get, take, Some}
 use Rattle.std.specs.List.{flat_map}
 use Rattle.tg_graph.specs.declared.session.Act.{Act}
 use Rattle.tg_graph.specs.declared.session.Act.TheVariants as act
@@ -11,6 +11,7 @@ use Rattle.tg_text.specs.declared.script_text.ScriptLine.{ScriptLine}
 use Rattle.tg_text.specs.ScriptText.{ScriptOf}
 use Rattle.tg_text.specs.Canonical.{line_of, canonical_text}
 use Rattle.tg_journal.specs.Lists.{Begins}
+use Rattle.tg_journal.specs.Pass.{KnowsAt}
 use Rattle.tg_store.specs.declared.answers.Answered.{Answered}
 use Rattle.tg_store.specs.declared.records.Record.{Record}
 use Rattle.tg_store.specs.declared.events.HallFault.TheVariants as hall
@@ -25,7 +26,7 @@ use Rattle.tg_store.specs.declared.outcomes.CommitFault.{CommitFault}
 use Rattle.tg_store.specs.declared.outcomes.CommitFault.TheVariants as commit
 use Rattle.tg_store.specs.Answers.{IsAnswer, AreAnswers, after_steps}
 use Rattle.tg_store.specs.Histories.{replay, IsLegal}
-use Rattle.tg_store.specs.Running.{RunningStore, RunningSeat, RunningSession, GoesOn, first_seat}
+use Rattle.tg_store.specs.Running.{RunningStore, RunningSeat, RunningSession, IsSeat, GoesOn, PutsNothing, first_seat}
 use Rattle.tg_store.specs.Outcomes.{BeginSays, CommitSays, FindsForeign}
 use Rattle.officer.specs.declared.turns.Player.{Player}
 use Rattle.officer.specs.declared.turns.Player.TheVariants.{Free, Open}
@@ -133,6 +134,7 @@ pub record IsPlay (store : RunningStore) (events : List ScriptLine) (number : �
   pub player : Player
   pub turns : TakesTurns (Free (first_seat store number)) p.events p.answers player
   pub end : p.end ≡ seat_at player
+  pub seat : IsSeat p.end
 
 -- ---- what its lines say
 -- what an event came to
@@ -187,20 +189,40 @@ pub record StandsIn (g : ProtectionGraph) (history : List Record) (c : ToldCommi
   pub stands : slice_get history c.place ≡ Some c.told
   pub answers : AreAnswers (replay g (take c.place history)) c.told.steps
 
--- the lines of some seat tell of a commit at the place
-pub record IsTold (plays : List SeatPlay) (place : ℕ) : Type 0 where
+-- the record at the place bears the number of a seat that has seen it there
+pub record IsSeenByItsSeat (plays : List SeatPlay) (place : ℕ) (r : Record) : Type 0 where
   pub seat : ℕ
   pub play : SeatPlay
   pub plays_so : slice_get plays seat ≡ Some play
-  pub commit : ToldCommit
-  pub told : Contains (commits_of (seat + 1) play) commit
-  pub there : commit.place ≡ place
+  pub bears : r.seat ≡ seat + 1
+  pub seen : place < length play.end.pass.seen
 
--- There is one history. What each seat has taken in is a beginning of it, and each commit of which lines tell stands in it. If lines tell of each of its records, it is legal.
+-- There is one history. What each seat has taken in is a beginning of it, and each commit of which lines tell stands in it. The other way round, each record of it that bears a seat's number, at a place that this seat has seen, is told by that seat's lines. If each of its records is of that kind, it is legal.
 pub record IsHistory (g : ProtectionGraph) (plays : List SeatPlay) (history : List Record) : Type 0 where
   pub begins : (k : ℕ) (p : SeatPlay) → slice_get plays k ≡ Some p → Begins (taken_in p.end) history
   pub stand : (k : ℕ) (p : SeatPlay) → slice_get plays k ≡ Some p → All (StandsIn g history) (commits_of (k + 1) p)
-  pub legal : ((place : ℕ) → place < length history → IsTold plays place) → IsLegal g history
+  pub told : (k : ℕ) (p : SeatPlay) → slice_get plays k ≡ Some p → (place : ℕ) (r : Record) → place < length p.end.pass.seen → slice_get history place ≡ Some r → r.seat ≡ k + 1 → Contains (commits_of (k + 1) p) (record { place = place; told = r })
+  pub legal : ((place : ℕ) (r : Record) → slice_get history place ≡ Some r → IsSeenByItsSeat plays place r) → IsLegal g history
+
+-- ---- the meetings
+-- The first seat, from where its play left it, has met all others: what each of them has seen begins what it has taken in; where there are others, it has taken in all that it has seen; it has put nothing; and what it has seen is no more than some seat has seen.
+pub record HasMetOthers (plays : List SeatPlay) (last : RunningSeat) : Type 0 where
+  pub first : SeatPlay
+  pub is_first : slice_get plays 0 ≡ Some first
+  pub goes_on : GoesOn first.end last
+  pub nothing_put : PutsNothing first.end last
+  pub seat : IsSeat last
+  pub met : (k : ℕ) (p : SeatPlay) → slice_get plays (k + 1) ≡ Some p → Begins p.end.pass.seen (taken_in last)
+  pub all : 1 < length plays → last.taken ≡ length last.pass.seen
+  pub reached : (k : ℕ) × (p : SeatPlay) × (slice_get plays k ≡ Some p) × (last.pass.seen ≡ p.end.pass.seen)
+
+-- The seat has found a record of its own number that it did not put: it knows it at the place from the other seat, which has seen it there, and has itself seen what the other has before that place.
+pub record HasFoundForeign (place : ℕ) (other last : RunningSeat) : Type 0 where
+  pub finds : FindsForeign place last
+  pub before : last.pass.seen ≡ take place other.pass.seen
+  pub stored : Record
+  pub stands : slice_get other.pass.seen place ≡ Some stored
+  pub known : KnowsAt last.pass place stored
 
 -- ---- the report
 -- the outcomes, and then a graph
@@ -211,20 +233,26 @@ graph_report outcomes g = record { bytes = outcomes ++ line_of (codes "graph" �
 abbrev pub foreign_report : List ℕ → ℕ → ReportText
 foreign_report outcomes place = record { bytes = outcomes ++ line_of (race_words (Foreign place)); status = 1 }
 
--- the first seat met all others, and prints the replay of the history
-pub record EndsInGraph (g : ProtectionGraph) (plays : List SeatPlay) (report : ReportText) : Type 0 where
-  pub history : List Record
-  pub is : IsHistory g plays history
-  pub says : report ≡ graph_report (race_outcomes plays) (replay g history)
+-- the first seat met all others, and prints the replay of what it has taken in then: the history, which has no more records than there are cells
+pub record EndsInGraph (g : ProtectionGraph) (cells : ℕ) (plays : List SeatPlay) (report : ReportText) : Type 0 where
+  pub last : RunningSeat
+  pub met : HasMetOthers plays last
+  pub is : IsHistory g plays (taken_in last)
+  pub within : length (taken_in last) ≤ cells
+  pub says : report ≡ graph_report (race_outcomes plays) (replay g (taken_in last))
 
--- in its meetings the first seat found a record of its own number that it did not put
+-- in its meetings the first seat, which put nothing in them, found at another seat a record of its own number that it did not put
 pub record EndsInForeign (plays : List SeatPlay) (report : ReportText) : Type 0 where
   pub first : SeatPlay
   pub is_first : slice_get plays 0 ≡ Some first
   pub last : RunningSeat
   pub goes_on : GoesOn first.end last
+  pub nothing_put : PutsNothing first.end last
+  pub other : ℕ
+  pub play : SeatPlay
+  pub is_other : slice_get plays (other + 1) ≡ Some play
   pub place : ℕ
-  pub finds : FindsForeign place last
+  pub found : HasFoundForeign place play.end last
   pub says : report ≡ foreign_report (race_outcomes plays) place
 
 -- the seats of a script played on a store over the graph, and the first met all others then
@@ -235,7 +263,7 @@ pub record IsRaced (g : ProtectionGraph) (script : ScriptOf) (report : ReportTex
   pub plays : List SeatPlay
   pub seats : length plays ≡ script.seats
   pub each : (k : ℕ) (p : SeatPlay) → slice_get plays k ≡ Some p → IsPlay store script.lines (k + 1) p
-  pub end : EndsInGraph g plays report ⊎ EndsInForeign plays report
+  pub end : EndsInGraph g script.cells plays report ⊎ EndsInForeign plays report
 
 -- the report of a race for its texts
 abbrev pub IsRaceReport : List ℕ → List ℕ → ReportText → Type 0

@@ -1,17 +1,15 @@
-//! Scripts whose seats play in threads of their own, at once.
-ghost use Rattle.std.specs.Prelude.{◌≡◌, ◌==◌, ◌+◌, ◌<◌, ◌≤◌, ℕ, [], All, IfOk, IfErr, Some, length, slice_get};
+//! Scripts whose seats play at once, each in a thread of its own where one can be started.
+ghost use Rattle.std.specs.Prelude.{◌≡◌, ◌==◌, ◌+◌, ◌<◌, ◌≤◌, ℕ, [], All, IfOk, OnOk, IfErr, Some, length, slice_get};
 ghost use Rattle.tg_graph.specs.GraphOf.{graph_of};
 ghost use Rattle.tg_graph.specs.Limits.{most_vertices};
 ghost use Rattle.tg_text.specs.ScriptText.{script_of};
-ghost use Rattle.tg_journal.specs.Lists.{Begins};
 ghost use Rattle.tg_store.specs.Acts.{IsStageableAct};
-ghost use Rattle.tg_store.specs.Running.{IsOf, GoesOn, first_seat};
-ghost use Rattle.tg_store.specs.Outcomes.{MeetFaultSays};
+ghost use Rattle.tg_store.specs.Running.{IsOf, IsSeat, GoesOn, PutsNothing, first_seat};
 ghost use Rattle.officer.specs.Reports.{IsFor};
 ghost use Rattle.officer.specs.Runs.{playing_in};
 ghost use Rattle.officer.specs.Outcomes.{Makes, IsPlayableScript, report_text};
-ghost use Rattle.officer.specs.Races.{seat_at, events_of, taken_in, graph_report, IsRaced, IsRaceReport};
-ghost use Rattle.officer.specs.RaceParts.{AreStageable, TurnsOn, TurnsIf, IsFinished, AreFinished, AreGathered, EndsInFault, EndsRace};
+ghost use Rattle.officer.specs.Races.{seat_at, events_of, graph_report, IsRaced, IsRaceReport};
+ghost use Rattle.officer.specs.RaceParts.{AreStageable, TurnsOn, TurnsIf, IsFinished, AreFinished, AreGathered, MeetsOne, MeetsAll, MeetingFound, MeetingsFound, EndsInFault, EndsRace};
 
 use crate::inputs::{graph_in, script_in};
 use crate::outcome::{Halt, Report};
@@ -147,10 +145,13 @@ fn gather(
 fn meet_one(store: &Store, seat: &mut Seat, other: &Seat) -> Result<(), StoreMeetFault>
     requires seat { IsOf store.now seat.old }
     requires other { IsOf store.now other.now }
-    ensures goes_on { GoesOn seat.old seat.new }
-    ensures met { IfOk result (λ _. Begins other.now.pass.seen (taken_in seat.new)) }
-    ensures refused { IfErr result (λ fault. MeetFaultSays fault seat.new) }
+    ensures goes_on { GoesOn seat.old seat.new × PutsNothing seat.old seat.new }
+    ensures seat { IsSeat seat.new }
+    ensures met { OnOk result (MeetsOne seat.old other.now seat.new) }
+    ensures found { IfErr result (λ fault. MeetingFound fault other.now seat.new) }
 {
+    // its contract says what is true of each seat
+    let _ = seat.taken();
     match store.front(other) {
         Ok(front) => store.meet(seat, &front),
         Err(AllocError) => Err(StoreMeetFault::Memory),
@@ -161,11 +162,13 @@ fn meet_one(store: &Store, seat: &mut Seat, other: &Seat) -> Result<(), StoreMee
 fn meet_all(store: &Store, seat: &mut Seat, others: &[Seat]) -> Result<(), StoreMeetFault>
     requires seat { IsOf store.now seat.old }
     requires others { All (IsOf store.now) others.now }
-    ensures goes_on { GoesOn seat.old seat.new }
-    ensures met { IfOk result
-        (λ _. All (λ other. Begins other.pass.seen (taken_in seat.new)) others.now) }
-    ensures refused { IfErr result (λ fault. MeetFaultSays fault seat.new) }
+    ensures goes_on { GoesOn seat.old seat.new × PutsNothing seat.old seat.new }
+    ensures seat { IsSeat seat.new }
+    ensures met { OnOk result (MeetsAll seat.old others.now seat.new) }
+    ensures found { IfErr result (λ fault. MeetingsFound fault others.now seat.new) }
 {
+    // its contract says what is true of each seat
+    let _ = seat.taken();
     for other in others {
         meet_one(store, seat, other)?;
     }
@@ -279,9 +282,9 @@ fn race_of<R: Threads + Sync>(
 /// started, on a store over the graph.
 ///
 /// The lines of the outcomes stand by seat. When all have played, the first seat meets the others,
-/// and its graph ends the report; where it finds a record of its own number that it did not put,
-/// that line does, with status 1. A session that is left open is given up. An error means that
-/// there was no memory, other than for an event of a seat.
+/// puts nothing more, and its graph ends the report; where it finds at another seat a record of its
+/// own number that it did not put, that line does, with status 1. A session that is left open is given
+/// up. An error means that there was no memory, other than for an event of a seat.
 pub fn race<R: Threads + Sync + AllocGlobal>(
     rt: &R,
     first: &[u8],

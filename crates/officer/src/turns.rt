@@ -1,6 +1,6 @@
 //! What a seat of a race does at its events, one after another.
 ghost use Rattle.std.specs.Prelude.{◌≡◌};
-ghost use Rattle.tg_store.specs.Running.{IsOf};
+ghost use Rattle.tg_store.specs.Running.{IsOf, IsSeat};
 ghost use Rattle.tg_store.specs.Acts.{IsStageableAct};
 ghost use Rattle.officer.specs.Races.{seat_at, unopened_reply, fault_reply, OpensSession, Stages, CommitsSession, Turns};
 
@@ -33,10 +33,15 @@ pub enum RaceReply {
 impl Player {
     // The seat. A session that is open is given up.
     pub(crate) fn into_seat(self) -> Seat
-        ensures { result ≡ seat_at self }
+        ensures value { result ≡ seat_at self }
+        ensures seat { IsSeat result }
     {
         match self {
-            Player::Free(seat) => seat,
+            Player::Free(seat) => {
+                // its contract says what is true of each seat
+                let _ = seat.taken();
+                seat
+            }
             Player::Open(session) => session.abort(),
         }
     }

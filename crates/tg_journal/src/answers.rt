@@ -1,3 +1,4 @@
+//! What the calls of a journal answer.
 ghost use Rattle.std.specs.Prelude.{◌≡◌};
 ghost use Rattle.tg_journal.specs.declared.answers.JournalFault.TheVariants as JournalFault;
 

@@ -1,3 +1,4 @@
+//! The records that a journal holds.
 ghost use Rattle.std.specs.Prelude.{◌≡◌, ℕ, IfOk, ◌↔◌, IsTrue};
 
 use std::alloc::AllocError;

@@ -1,3 +1,4 @@
+//! The journal, and its calls.
 ghost use Rattle.std.specs.Prelude.{All, IfSome, IsTrue, IsFalse, IsSome, ◌≡◌, ◌≢◌, ◌≤◌, ◌<◌, ℕ, ◌+◌, length, max, take, map, slice_get, IfOk, IfErr, ◌↔◌};
 ghost use Rattle.std.specs.Option.{option_copied};
 ghost use Rattle.tg_journal.specs.Limits.{most_cells, most_seats};

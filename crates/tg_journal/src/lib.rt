@@ -2,9 +2,10 @@
 //! lock.
 //!
 //! A [`Journal`] has the cells, and each thread owns a [`Pass`], which knows the records of the
-//! cells that it has read, set or been told of. No call waits or takes a lock. A call of `next`
-//! loads one cell, a call of `put` sets one, and `meet` loads those cells that only the front has
-//! seen. A thread tells others what it has seen by a [`Front`].
+//! cells that it has read, set or been told of. No call waits or takes a lock. A call of `next` or
+//! `at` loads one cell at most, a call of `put` loads one and tries to set it where it is empty, and
+//! `meet` loads those cells that only the front has seen. A thread tells others what it has seen by
+//! a [`Front`].
 #![tactic(auto)]
 
 mod answers;

@@ -1,3 +1,4 @@
+//! Notes of cells that are written once more, or over one another.
 ghost use Rattle.once_cell.specs.Once.{Agrees};
 ghost use Rattle.std.specs.Prelude.{◌≡◌, IfSome};
 

@@ -1,4 +1,5 @@
-ghost use Rattle.std.specs.Prelude.{◌≡◌, ◌<◌, length, slice_get, IfSome, IsSome};
+//! What one thread knows of a journal, and what it tells others.
+ghost use Rattle.std.specs.Prelude.{◌≡◌, ◌<◌, ◌↔◌, length, slice_get, IfSome, IsSome, IsTrue};
 
 use crate::entry::Entry;
 use crate::notes::{duplicate, replace};
@@ -67,6 +68,16 @@ impl<R: Entry> Pass<R> {
         ensures pass { IsPass R.seat_of self.now }
     {
         self.count
+    }
+
+    /// Whether the pass has seen as many records as its journal has cells, so that nothing can be put
+    /// any more.
+    pub fn is_full(&self) -> bool
+        ensures full { IsTrue result ↔ (length self.now.seen ≡ length self.now.cells) }
+        ensures pass { IsPass R.seat_of self.now }
+    {
+        let seen = self.count;
+        seen >= self.notes.len()
     }
 
     /// How many records the pass has put.

@@ -1,3 +1,4 @@
+//! A note that is written over by hand.
 ghost use Rattle.std.specs.Prelude.{◌≡◌};
 
 use once_cell::race::Note;

@@ -143,6 +143,7 @@ fn filled(
     assert!(rt; journal.put(q, &b) == Put::Lost(0));
     assert!(rt; journal.put(q, &b) == Put::Won(1));
     assert!(rt; journal.put(q, &c) == Put::Full);
+    assert!(rt; q.is_full() && !p.is_full());
     assert!(rt; p.own() == 1 && q.own() == 1 && s.own() == 0);
 }
 

@@ -17,7 +17,7 @@ use Rattle.tg_store.proofs.RunningSeats.{goes_on-trans}
 
 -- ---- begin
 pub begin-after : (old mid : RunningSeat) (answer : Begun) → GoesOn old mid → PutsNothing old mid → BeginSays mid answer → BeginSays old answer
-begin-after old mid (Session s) g n h = (goes_on-trans old mid s.seat g h.0, h.1 ∙ n, h.2, h.3, h.4)
+begin-after old mid (Session s) g n h = (goes_on-trans old mid s.seat g h.0, h.1 ∙ n, h.2, h.3, h.4, h.5)
 begin-after old mid (Refused new fault) g n h = (goes_on-trans old mid new g h.0, h.1 ∙ n, h.2, h.3)
 
 -- ---- lists, place by place

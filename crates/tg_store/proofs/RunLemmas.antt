@@ -1,6 +1,7 @@
 -- Runs of a hall's world.
 use Rattle.std.proofs.Common.{◌≡◌, ℕ, ◌+◌, ◌-◌, ◌<◌, ◌≤◌, ◌++◌, ◌==◌, Bool, true, false, List, [], ◌∷◌, length, take, get_or, map, replicate, Option, None, Some, MatchOption, is_some, refl, sym, ap, subst, ◌∙◌, arith, true≢false, get_or-set_same}
 use Rattle.std.specs.Prelude.{slice_get, slice_set, if◌then◌else◌}
+use Rattle.std.specs.List.{AllZip}
 use Rattle.std.specs.Option.{option_map_or}
 use Rattle.std.proofs.lemmas.List.{take_more, length-append, length-set, map-append}
 use Rattle.std.proofs.lemmas.Option.{slice_get_within, slice_get_read}
@@ -12,7 +13,7 @@ use Rattle.tg_store.specs.declared.events.Event.TheVariants.{Begin, Learn, Stage
 use Rattle.tg_store.specs.declared.events.HallReply.{HallReply}
 use Rattle.tg_store.specs.declared.events.HallReply.TheVariants as reply
 use Rattle.tg_store.specs.declared.events.HallFault.TheVariants.{NoSeat, NotOpen, Changed, Crowded, JournalFull, Memory}
-use Rattle.tg_store.specs.Worlds.{World, SeatView, seat_of, seat_in, rests_on, with_seat, Moves, Happens, Run, Learns, TakesIn, Puts, Joins}
+use Rattle.tg_store.specs.Worlds.{World, SeatView, seat_of, seat_in, rests_on, with_seat, Moves, Happens, Run, IsSpared, Learns, TakesIn, Puts, Joins}
 use Rattle.tg_store.specs.Acts.{is_learned, MayLearn, Repeats}
 use Rattle.tg_store.proofs.HallLemmas.{replicate-push}
 
@@ -27,6 +28,18 @@ pub run-more : (w mid v : World) (events : List Event) (answers : List HallReply
 run-more w mid v events answers i event answer lt is r h =
     subst (λ es. Run w es (answers ++ answer ∷ []) v) (sym (take_more events i event lt ∙ ap (λ e. take i events ++ e ∷ []) (sym is)))
     (run-push w mid v (take i events) answers event answer r h)
+
+-- ---- events that take no memory
+spared-push : (events : List Event) (answers : List HallReply) (event : Event) (answer : HallReply) → AllZip IsSpared events answers → IsSpared event answer → AllZip IsSpared (events ++ event ∷ []) (answers ++ answer ∷ [])
+spared-push [] [] event answer h r = (r, tt)
+spared-push [] (a ∷ answers) event answer h r = absurd h
+spared-push (e ∷ events) [] event answer h r = absurd h
+spared-push (e ∷ events) (a ∷ answers) event answer h r = (h.0, spared-push events answers event answer h.1 r)
+
+pub spared-more : (events : List Event) (answers : List HallReply) (i : ℕ) (event : Event) (answer : HallReply) → i < length events → event ≡ get_or events i event → AllZip IsSpared (take i events) answers → IsSpared event answer → AllZip IsSpared (take (i + 1) events) (answers ++ answer ∷ [])
+spared-more events answers i event answer lt is h r =
+    subst (λ es. AllZip IsSpared es (answers ++ answer ∷ [])) (sym (take_more events i event lt ∙ ap (λ e. take i events ++ e ∷ []) (sym is)))
+    (spared-push (take i events) answers event answer h r)
 
 -- ---- what is left for a seat
 -- how many records the seat has not taken in

@@ -18,7 +18,7 @@ use Rattle.tg_store.specs.declared.running_seats.Look.{Look}
 use Rattle.tg_store.specs.declared.running_seats.Look.TheVariants.{Found, Nothing, Foreign}
 use Rattle.tg_store.specs.Answers.{AreAnswers}
 use Rattle.tg_store.specs.Histories.{replay}
-use Rattle.tg_store.specs.Running.{RunningSeat, seat_number, seen_graph, IsOwnRecord, IsSeat, GoesOn, PutsNothing}
+use Rattle.tg_store.specs.Running.{RunningSeat, seat_number, seen_graph, IsOwnRecord, IsSeat, KnowsNoMore, GoesOn, PutsNothing}
 use Rattle.tg_store.specs.Outcomes.{FindsForeign}
 use Rattle.tg_store.specs.Looks.{is_found, LookSays, FindSays}
 
@@ -138,7 +138,7 @@ next-begins (next.Foreign place) old new h = subst (Begins old.seen) (sym h.0) (
 
 finds : (answer : Next Record) (s t : RunningSeat) → t.opening ≡ s.opening → t.taken ≡ s.taken → t.graph ≡ s.graph → NextSays seat_number answer s.pass t.pass → FindSays s (looked answer) t
 finds (next.Entry r) s t o n g h = ap length h.0 ∙ length-append s.pass.seen (r.now ∷ [])
-finds next.End s t o n g h = λ i. record { opening = o i; pass = h.0 i; taken = n i; graph = g i }
+finds next.End s t o n g h = (λ i. record { opening = o i; pass = h.0 i; taken = n i; graph = g i }, h.1)
 finds (next.Foreign place) s t o n g h = (ap length h.0, h.1)
 
 pub look-says : (answer : Next Record) (look : Look) (s t : RunningSeat) → look ≡ looked answer → t.opening ≡ s.opening → t.taken ≡ s.taken → t.graph ≡ s.graph → t.pass.number ≡ s.pass.number → t.pass.cells ≡ s.pass.cells → t.pass.mine ≡ s.pass.mine
@@ -184,6 +184,7 @@ pub record Looked (old : RunningSeat) (look : Look) (new : RunningSeat) : Type 0
   pub goes_on : GoesOn old new
   pub nothing_put : PutsNothing old new
   pub seat : IsSeat new
+  pub no_more : look ≡ Nothing → KnowsNoMore new
   pub foreign : (place : ℕ) → look ≡ Foreign place → FindsForeign place new
 
 -- how many looks may follow
@@ -193,14 +194,18 @@ left_after look s = length s.pass.cells - length s.pass.seen + (if is_found look
 foreign_found : (old : RunningSeat) (look : Look) (new : RunningSeat) (place : ℕ) → look ≡ Foreign place → FindSays old look new → FindsForeign place new
 foreign_found old look new place e h = (subst (λ look. FindSays old look new) e h).1
 
+none_known : (old : RunningSeat) (look : Look) (new : RunningSeat) → look ≡ Nothing → FindSays old look new → KnowsNoMore new
+none_known old look new e h = let found = subst (λ look. FindSays old look new) e h in subst KnowsNoMore (sym found.0) found.1
+
 pub looked-first : (s : RunningSeat) (look : Look) (t : RunningSeat) → LookSays s look t → Looked s look t
-looked-first s look t h = record { goes_on = h.goes_on; nothing_put = h.nothing_put; seat = h.seat; foreign = λ place e. foreign_found s look t place e h.finds }
+looked-first s look t h = record { goes_on = h.goes_on; nothing_put = h.nothing_put; seat = h.seat; no_more = λ e. none_known s look t e h.finds; foreign = λ place e. foreign_found s look t place e h.finds }
 
 pub looked-next : (s t u : RunningSeat) (first look : Look) → Looked s first t → LookSays t look u → Looked s look u
 looked-next s t u first look a h = record {
   goes_on = goes_on-trans s t u a.goes_on h.goes_on;
   nothing_put = h.nothing_put ∙ a.nothing_put;
   seat = h.seat;
+  no_more = λ e. none_known t look u e h.finds;
   foreign = λ place e. foreign_found t look u place e h.finds;
 }
 

@@ -20,7 +20,7 @@ use Rattle.tg_store.specs.Looks.{LookSays}
 use Rattle.tg_store.specs.Answers.{AreAnswers, after_steps}
 use Rattle.tg_store.specs.Touches.{IsClear}
 use Rattle.tg_store.specs.Running.{RunningSeat, RunningSession, seat_number, seen_graph, IsSeat, IsSession, GoesOn}
-use Rattle.tg_store.specs.Outcomes.{NoneObstructs, IsPut, CommitSays, CommitFaultSays}
+use Rattle.tg_store.specs.Outcomes.{NoneObstructs, IsPut, SessionGoesOn, CommitSays, CommitFaultSays}
 use Rattle.tg_store.specs.Attempts.{progress}
 use Rattle.tg_store.specs.Offers.{IsNotWon, OfferSays}
 use Rattle.tg_store.specs.declared.running_seats.Offered.TheVariants.{Won, Back}
@@ -70,18 +70,23 @@ module _ (old mid : RunningSession) (g : GoesOn old.seat mid.seat) (mine : mid.s
     taken = p.taken;
   }
 
+  further : (u : RunningSession) → SessionGoesOn mid u → SessionGoesOn old u
+  further u c = (goes_on-trans old.seat mid.seat u.seat g c.0, c.1 ∙ mine, later u.seat u.seat.taken c.0 c.2, c.3 ∙ steps, c.4)
+
   after : (answer : Committed) → CommitSays mid answer → CommitSays old answer
   after (Done t receipt) c =
       (goes_on-trans old.seat mid.seat t g c.0, put-later receipt.place t c.1, later t receipt.place c.0 c.2, c.3)
   after (Refused t fault) c =
       (goes_on-trans old.seat mid.seat t g c.0, c.1 ∙ mine, later t t.taken c.0 c.2, subst (λ steps. CommitFaultSays steps fault t) steps c.3, c.4)
-  after (Again u) c =
-      (goes_on-trans old.seat mid.seat u.seat g c.0, c.1 ∙ mine, later u.seat u.seat.taken c.0 c.2, c.3 ∙ steps, c.4)
+  after (Again u) c = (further u c.0, c.1)
 
-pub commit-after : (old mid : RunningSession) (answer : Committed) → CommitSays old (Again mid) → CommitSays mid answer → CommitSays old answer
+pub commit-after : (old mid : RunningSession) (answer : Committed) → SessionGoesOn old mid → CommitSays mid answer → CommitSays old answer
 commit-after old mid answer a c = after old mid a.0 a.1 a.2 a.3 a.4 answer c
 
-pub commit-start : (s : RunningSession) → IsSession s → CommitSays s (Again s)
+pub further-after : (old mid new : RunningSession) → SessionGoesOn old mid → SessionGoesOn mid new → SessionGoesOn old new
+further-after old mid new a c = further old mid a.0 a.1 a.2 a.3 a.4 new c
+
+pub commit-start : (s : RunningSession) → IsSession s → SessionGoesOn s s
 commit-start s h = (goes_on-refl s.seat, refl, none-yet s.seat s.steps s.seat.taken s.seat.taken (omega arith), refl, h)
 
 -- ---- the next record
@@ -126,7 +131,7 @@ look-foreign s t steps place all h =
 
 -- a session that rests on the next record as well
 pub rested : (s u : RunningSeat) (steps : List Answered) (r : Record) → IsSeat s → slice_get s.pass.seen s.taken ≡ Some r → IsClear (graph_of s.graph) r.steps (Some steps) → u.opening ≡ s.opening → u.pass ≡ s.pass → u.taken ≡ s.taken + 1 → IsSeat u → AreAnswers (graph_of u.graph) steps
-    → CommitSays (record { seat = s; steps = steps }) (Again (record { seat = u; steps = steps })) × (progress (record { seat = s; steps = steps }) < progress (record { seat = u; steps = steps }))
+    → SessionGoesOn (record { seat = s; steps = steps }) (record { seat = u; steps = steps }) × (progress (record { seat = s; steps = steps }) < progress (record { seat = u; steps = steps }))
 rested s u steps r h is clear o p n k answers =
     let g : GoesOn s u = goes_on-taken s u o p (omega (arith, n)) in
     let seen = ap (λ (p : PassState Record). length p.seen) p in

@@ -23,6 +23,13 @@ is_learned (reply.Refused fault) = false
 abbrev pub is_free : World → ℕ → Bool
 is_free w k = option_map_or (λ s. is_none s.session) (seat_of w k) false
 
+-- whether an act of the seat may take memory: to give up takes none, and to open a session none where the seat is not free
+abbrev pub act_takes_memory : World → ℕ → Act → Bool
+act_takes_memory w k act.Begin = is_free w k
+act_takes_memory w k (act.Stage step) = true
+act_takes_memory w k act.Commit = true
+act_takes_memory w k act.Abort = false
+
 -- a free seat that has taken in all that there is
 abbrev pub caught_up : World → SeatView
 caught_up w = record { taken = length w.history; session = None }

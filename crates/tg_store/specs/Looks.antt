@@ -2,7 +2,7 @@
 use Rattle.std.specs.Prelude.{◌≡◌, ◌+◌, Bool, true, false, length}
 use Rattle.tg_store.specs.declared.running_seats.Look.{Look}
 use Rattle.tg_store.specs.declared.running_seats.Look.TheVariants.{Found, Nothing, Foreign}
-use Rattle.tg_store.specs.Running.{RunningSeat, IsSeat, GoesOn, PutsNothing}
+use Rattle.tg_store.specs.Running.{RunningSeat, IsSeat, KnowsNoMore, GoesOn, PutsNothing}
 use Rattle.tg_store.specs.Outcomes.{FindsForeign}
 
 abbrev pub is_found : Look → Bool
@@ -12,7 +12,7 @@ is_found (Foreign place) = false
 
 abbrev pub FindSays : RunningSeat → Look → RunningSeat → Type 0
 FindSays old Found new = length new.pass.seen ≡ length old.pass.seen + 1
-FindSays old Nothing new = new ≡ old
+FindSays old Nothing new = (new ≡ old) × KnowsNoMore old
 FindSays old (Foreign place) new = (length new.pass.seen ≡ length old.pass.seen) × FindsForeign place new
 
 -- the look sees one record more, or none; what is taken in stays

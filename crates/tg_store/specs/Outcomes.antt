@@ -1,11 +1,14 @@
 -- What the calls of a running store answer, and what each answer says of the seat before and after it.
-use Rattle.std.specs.Prelude.{◌≡◌, ℕ, ◌+◌, ◌≤◌, ◌<◌, List, [], ◌∷◌, ◌++◌, length, slice_get, Some, None, ⊤}
+use Rattle.std.specs.Prelude.{◌≡◌, ℕ, ◌+◌, ◌≤◌, ◌<◌, List, [], ◌∷◌, ◌++◌, length, max, slice_get, Some, None, ⊤}
 use Rattle.tg_graph.specs.Rows.{Entries}
 use Rattle.tg_graph.specs.Graphs.{Name}
 use Rattle.tg_graph.specs.GraphOf.{graph_of}
 use Rattle.tg_journal.specs.declared.answers.JournalFault.{JournalFault}
 use Rattle.tg_journal.specs.declared.answers.JournalFault.TheVariants as journal
-use Rattle.tg_journal.specs.Answers.{IsForeign}
+use Rattle.tg_journal.specs.declared.answers.MeetFault.TheVariants as pass_meet
+use Rattle.tg_journal.specs.Front.{FrontState}
+use Rattle.tg_journal.specs.Pass.{PassState, KnowsFromAsBefore}
+use Rattle.tg_journal.specs.Answers.{IsForeign, MeetFaultSays as PassMeetFaultSays}
 use Rattle.tg_store.specs.declared.answers.Answered.{Answered}
 use Rattle.tg_store.specs.declared.records.Record.{Record}
 use Rattle.tg_store.specs.declared.events.StoreFault.{StoreFault}
@@ -22,7 +25,7 @@ use Rattle.tg_store.specs.declared.outcomes.StoreMeetFault.{StoreMeetFault}
 use Rattle.tg_store.specs.declared.outcomes.StoreMeetFault.TheVariants as meet
 use Rattle.tg_store.specs.Touches.{IsClear, IsSpoilt, IsOvercrowded}
 use Rattle.tg_store.specs.Worlds.{opening_fault}
-use Rattle.tg_store.specs.Running.{RunningSeat, RunningSession, seat_number, seen_graph, IsSeat, IsSession, GoesOn, PutsNothing}
+use Rattle.tg_store.specs.Running.{RunningSeat, RunningSession, seat_number, seen_graph, IsSeat, IsSession, KnowsNoMore, GoesOn, PutsNothing}
 
 -- why no store is made, where its journal is refused so
 abbrev pub told_fault : JournalFault → StoreFault
@@ -44,9 +47,9 @@ abbrev pub BeginFaultSays : BeginFault → RunningSeat → Type 0
 BeginFaultSays (begin.Foreign place) new = FindsForeign place new
 BeginFaultSays begin.Memory new = ⊤
 
--- a session without steps, on all that its seat has seen; or the seat again
+-- a session without steps, on all that its seat has seen or knows of; or the seat again
 abbrev pub BeginSays : RunningSeat → Begun → Type 0
-BeginSays old (begun.Session s) = GoesOn old s.seat × PutsNothing old s.seat × (s.steps ≡ []) × (s.seat.taken ≡ length s.seat.pass.seen) × IsSession s
+BeginSays old (begun.Session s) = GoesOn old s.seat × PutsNothing old s.seat × (s.steps ≡ []) × (s.seat.taken ≡ length s.seat.pass.seen) × IsSession s × KnowsNoMore s.seat
 BeginSays old (begun.Refused new fault) = GoesOn old new × PutsNothing old new × BeginFaultSays fault new × IsSeat new
 
 -- ---- commit
@@ -76,15 +79,33 @@ pub record IsPut (old : RunningSession) (place : ℕ) (new : RunningSeat) : Type
   pub last : length new.pass.seen ≡ place + 1
   pub taken : new.taken ≡ place + 1
 
+-- the session goes on with the same steps: its seat has put nothing, and no record that it has taken in obstructs it
+abbrev pub SessionGoesOn : RunningSession → RunningSession → Type 0
+SessionGoesOn old s =
+    GoesOn old.seat s.seat × PutsNothing old.seat s.seat × NoneObstructs s.seat old.steps old.seat.taken s.seat.taken × (s.steps ≡ old.steps) × IsSession s
+
+-- where the seat has taken in all that it has seen, a cell is free
+abbrev pub HasFreeCell : RunningSeat → Type 0
+HasFreeCell s = s.taken ≡ length s.pass.seen → length s.pass.seen < length s.pass.cells
+
 abbrev pub CommitSays : RunningSession → Committed → Type 0
 CommitSays old (committed.Done new receipt) =
     GoesOn old.seat new × IsPut old receipt.place new × NoneObstructs new old.steps old.seat.taken receipt.place × IsSeat new
 CommitSays old (committed.Refused new fault) =
     GoesOn old.seat new × PutsNothing old.seat new × NoneObstructs new old.steps old.seat.taken new.taken × CommitFaultSays old.steps fault new × IsSeat new
-CommitSays old (committed.Again s) =
-    GoesOn old.seat s.seat × PutsNothing old.seat s.seat × NoneObstructs s.seat old.steps old.seat.taken s.seat.taken × (s.steps ≡ old.steps) × IsSession s
+CommitSays old (committed.Again s) = SessionGoesOn old s × HasFreeCell s.seat
 
 -- ---- meet
 abbrev pub MeetFaultSays : StoreMeetFault → RunningSeat → Type 0
 MeetFaultSays (meet.Foreign place) new = FindsForeign place new
 MeetFaultSays meet.Memory new = ⊤
+
+-- a pass that has met a front has seen the longer of what the two had seen, and has learnt of no further cell
+pub record HasSeenLonger (front : FrontState Record) (old new : PassState Record) : Type 0 where
+  pub longer : length new.seen ≡ max (length old.seen) (length front.seen)
+  pub others : KnowsFromAsBefore (length new.seen) old new
+
+-- where a meeting ends: at the front's record that the seat can't have, before which it has seen all that the front has; or, for want of memory, with all seen
+abbrev pub MeetingEnds : StoreMeetFault → FrontState Record → PassState Record → PassState Record → Type 0
+MeetingEnds (meet.Foreign place) front old new = PassMeetFaultSays seat_number (pass_meet.Foreign place) front old new
+MeetingEnds meet.Memory front old new = HasSeenLonger front old new

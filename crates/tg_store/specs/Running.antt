@@ -4,7 +4,7 @@ use Rattle.tg_graph.specs.Rows.{Entries}
 use Rattle.tg_graph.specs.Graphs.{ProtectionGraph}
 use Rattle.tg_graph.specs.GraphOf.{graph_of}
 use Rattle.tg_journal.specs.Lists.{Begins}
-use Rattle.tg_journal.specs.Pass.{PassState, IsPass, Remembers, fresh}
+use Rattle.tg_journal.specs.Pass.{PassState, IsPass, KnowsAt, Remembers, fresh}
 use Rattle.tg_store.specs.declared.answers.Answered.{Answered}
 use Rattle.tg_store.specs.declared.records.Record.{Record}
 use Rattle.tg_store.specs.Answers.{AreAnswers}
@@ -65,6 +65,10 @@ pub record IsSeat (s : RunningSeat) : Type 0 where
 pub record IsSession (s : RunningSession) : Type 0 where
   pub seat : IsSeat s.seat
   pub answers : AreAnswers (graph_of s.seat.graph) s.steps
+
+-- it knows of no record at the first place that it has not seen
+abbrev pub KnowsNoMore : RunningSeat → Type 0
+KnowsNoMore s = (r : Record) → ¬ KnowsAt s.pass (length s.pass.seen) r
 
 -- the seat goes on: what it knew, had seen and had taken in it still has
 pub record GoesOn (old new : RunningSeat) : Type 0 where

@@ -171,6 +171,10 @@ is_short_of_memory (reply.Refused (Crowded place)) = false
 is_short_of_memory (reply.Refused JournalFull) = false
 is_short_of_memory (reply.Refused Memory) = true
 
+-- an event that takes no memory is not refused it
+abbrev pub IsSpared : Event → HallReply → Type 0
+IsSpared event answer = takes_memory event ≡ false → is_short_of_memory answer ≡ false
+
 -- why no hall is made, but for want of memory
 abbrev pub opening_fault : ProtectionGraph → ℕ → ℕ → Option StoreFault
 opening_fault g cells seats =

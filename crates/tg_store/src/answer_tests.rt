@@ -128,3 +128,18 @@ fn what_a_seat_has_taken(rt: HostRuntime) -> Result<(), Fail> {
     assert!(rt; hall.graph(3).is_none());
     Ok(())
 }
+
+// Three questions that no edge answers are enough for a session to keep what they found.
+#[test]
+fn three_questions_are_kept(rt: HostRuntime) -> Result<(), Fail> {
+    let mut hall = hall_of_three(&rt, rt.alloc(), 4, 1)?;
+    let rows = [
+        (1, Begin, Done),
+        (1, Share(Right::W, *b"ac"), No),
+        (1, Share(Right::W, *b"ac"), No),
+        (1, Share(Right::W, *b"ac"), No),
+    ];
+    events(&rt, &mut hall, &rows);
+    assert!(rt; hall.knows_any());
+    Ok(())
+}

@@ -136,8 +136,8 @@ fn refused_alike(rt: &impl process::Abort, first: &mut Hall, second: &mut Hall, 
     }
 }
 
-// A hall whose session has asked the same questions and knows something, or nothing any more, where memory
-// was not refused.
+// Whether a hall's session has asked three questions, where memory was not refused for them, and knows
+// something, or has given it up and knows nothing.
 fn asked(rt: &impl process::Abort, hall: &mut Hall, knows: bool) -> bool {
     let rows = [
         (1, Begin, Done),

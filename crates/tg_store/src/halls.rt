@@ -1,13 +1,14 @@
 //! The monitor in one thread.
 ghost use Rattle.std.specs.Prelude.{◌≡◌, ◌+◌, ◌<◌, ◌≤◌, ◌⊎◌, ◌∷◌, ◌++◌, [], true, false, vec_len, All, IfOk, OnOk, OnErr, IfSome, Some, None, MatchOption, length, slice_get, map, replicate};
+ghost use Rattle.std.specs.List.{AllZip};
 ghost use Rattle.std.specs.Option.{option_map, option_copied};
 ghost use Rattle.tg_graph.specs.Graphs.{ProtectionGraph};
 ghost use Rattle.tg_graph.specs.GraphOf.{graph_of};
 ghost use Rattle.tg_graph.specs.Limits.{most_cells};
 ghost use Rattle.tg_store.specs.Answers.{AreAnswers};
 ghost use Rattle.tg_store.specs.Histories.{replay, count_of, IsLegal, IsNumbered, AreApart};
-ghost use Rattle.tg_store.specs.Worlds.{takes_memory, is_short_of_memory, fresh_seat, seat_of, seat_in, rests_on, with_seat, TakeWithin, HoldTrue, Moves, Happens, Run, IsStageable, OpensHall};
-ghost use Rattle.tg_store.specs.Acts.{is_learned, is_free, caught_up, IsBehind, MayLearn, Repeats, CatchesUp, Acts, IsStageableAct};
+ghost use Rattle.tg_store.specs.Worlds.{takes_memory, is_short_of_memory, fresh_seat, seat_of, seat_in, rests_on, with_seat, TakeWithin, HoldTrue, Moves, Happens, Run, IsStageable, IsSpared, OpensHall};
+ghost use Rattle.tg_store.specs.Acts.{is_learned, is_free, caught_up, IsBehind, act_takes_memory, MayLearn, Repeats, CatchesUp, Acts, IsStageableAct};
 ghost use Rattle.std.specs.Vec.{vec_capacity};
 ghost use Rattle.tg_store.specs.Trails.{IsTrail};
 ghost use Rattle.tg_store.specs.Seats.{seen_seat, IsConsistent, Rests};
@@ -329,6 +330,7 @@ impl Hall {
     pub fn run(&mut self, events: &[Event]) -> Result<Vec<HallReply>, AllocError>
         requires { All IsStageable events.now }
         ensures run { IfOk result (λ replies. Run self.old events.now replies.items self.new) }
+        ensures spared { IfOk result (λ replies. AllZip IsSpared events.now replies.items) }
         ensures legal { OnOk result (IsLegal (graph_of self.new.opening) self.new.history) }
         ensures err { OnErr result (self.new ≡ self.old) }
     {
@@ -440,10 +442,13 @@ impl Hall {
     /// One act of a seat: to take in all that is left and open a session, to stage a step, to
     /// commit, or to give up.
     ///
-    /// Want of memory ends an act where it stands.
+    /// Want of memory ends an act where it stands. To give up takes none, nor does what is refused since
+    /// no seat has the number or its session is open already.
     pub fn act(&mut self, seat: u32, act: &Act) -> HallReply
         requires { IsStageableAct act.now }
-        ensures { Acts self.old seat act.now result self.new }
+        ensures acts { Acts self.old seat act.now result self.new }
+        ensures spared { act_takes_memory self.old seat act.now ≡ false
+            → is_short_of_memory result ≡ false }
     {
         match *act {
             Act::Begin => {

@@ -1,10 +1,11 @@
 //! Monitors of sessions: seats that take in one history of committed sessions.
 //!
 //! A [`Hall`] is one value, for one thread. A [`Store`] is for running threads, which share it
-//! without a lock: each owns a [`Seat`], and the cells of the store's journal are all that they
-//! share. `begin` and `commit` look at cells, `commit` sets one, `meet` looks at those that only
-//! the front has seen, and `at` and `agreed` read seen cells again. `step` and `abort` touch no
-//! word that another seat's thread touches.
+//! without a lock: each owns a [`Seat`]. What they share are the heap, the cells of the store's
+//! journal, and the opening graph, which no call reads or changes once the store has started; a seat
+//! that is dropped counts it down. `begin` and `commit` look at cells, `commit` sets one, `meet` looks
+//! at those that only the front has seen, and `at` and `agreed` read seen cells again. `step` and
+//! `abort` look at none. This is how the code is written; no contract says it.
 #![tactic(auto)]
 
 #[cfg(test)]

@@ -1,5 +1,5 @@
 //! The seats of a running store.
-ghost use Rattle.std.specs.Prelude.{◌≡◌, ◌∷◌, ◌++◌, ◌+◌, ◌<◌, ◌≤◌, [], IfOk, OnOk, OnErr, IfSome, IfErr, length, slice_get, take};
+ghost use Rattle.std.specs.Prelude.{◌≡◌, ◌↔◌, ◌∷◌, ◌++◌, ◌+◌, ◌<◌, ◌≤◌, [], IsTrue, IfOk, OnOk, OnErr, IfSome, IfErr, length, slice_get, take};
 ghost use Rattle.std.specs.Arc.{arc_value};
 ghost use Rattle.std.specs.Option.{option_copied};
 ghost use Rattle.tg_graph.specs.GraphOf.{graph_of};
@@ -9,8 +9,9 @@ ghost use Rattle.tg_graph.specs.Drafts.{Fits, laid_over};
 ghost use Rattle.tg_store.specs.Answers.{AreAnswers, after_steps};
 ghost use Rattle.tg_store.specs.Drafted.{drafted};
 ghost use Rattle.tg_store.specs.Offers.{OfferSays};
-ghost use Rattle.tg_store.specs.Running.{RunningSeat, seat_number, seat_from, seen_graph, IsSeat, GoesOn, PutsNothing};
-ghost use Rattle.tg_store.specs.Outcomes.{FindsForeign};
+ghost use Rattle.tg_store.specs.Running.{RunningSeat, seat_number, seat_from, seen_graph, IsSeat, KnowsNoMore, GoesOn, PutsNothing};
+ghost use Rattle.tg_store.specs.Outcomes.{FindsForeign, HasSeenLonger, MeetingEnds};
+ghost use Rattle.tg_store.specs.declared.outcomes.StoreMeetFault.TheVariants as StoreMeetFault;
 ghost use Rattle.tg_store.specs.Looks.{is_found, LookSays};
 
 use crate::records::Record;
@@ -128,6 +129,14 @@ impl Seat {
         self.pass.len()
     }
 
+    // Whether each cell of its journal has a record that it has seen.
+    pub(crate) fn is_full(&self) -> bool
+        ensures full { IsTrue result ↔ (length self.now.pass.seen ≡ length self.now.pass.cells) }
+        ensures seat { IsSeat self.now }
+    {
+        self.pass.is_full()
+    }
+
     // How many records it has put.
     pub(crate) fn commits(&self) -> usize
         ensures { result ≡ length self.now.pass.mine }
@@ -173,6 +182,7 @@ impl Seat {
         requires { self.old.pass.cells ≡ journal.now }
         ensures goes_on { GoesOn self.old self.new × PutsNothing self.old self.new }
         ensures seat { IsSeat self.new }
+        ensures no_more { OnOk result (KnowsNoMore self.new) }
         ensures foreign { IfErr result (λ place. FindsForeign place self.new) }
     {
         let mut look = self.look(journal);
@@ -301,7 +311,11 @@ impl Seat {
         ensures goes_on { GoesOn self.old self.new × PutsNothing self.old self.new }
         ensures seat { IsSeat self.new }
         ensures met { IfOk result (λ _. Begins front.now.seen self.new.pass.seen) }
+        ensures longer { OnOk result (HasSeenLonger front.now self.old.pass self.new.pass) }
         ensures foreign { IfErr result (λ place. FindsForeign place self.new) }
+        ensures ends { IfErr result
+            (λ place. MeetingEnds (StoreMeetFault.Foreign place) front.now self.old.pass
+            self.new.pass) }
     {
         match journal.meet(&mut self.pass, front) {
             Ok(()) => Ok(()),

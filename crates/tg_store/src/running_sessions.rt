@@ -3,10 +3,12 @@ ghost use Rattle.std.specs.Prelude.{◌≡◌, ◌∷◌, ◌++◌, ◌<◌, [],
 ghost use Rattle.tg_graph.specs.GraphOf.{graph_of};
 ghost use Rattle.tg_store.specs.StepWords.{IsNamedStep};
 ghost use Rattle.tg_store.specs.Answers.{IsAnswer, after_steps};
-ghost use Rattle.tg_store.specs.Running.{RunningSession, IsSeat, IsSession};
+ghost use Rattle.tg_store.specs.Running.{RunningSession, IsSeat, IsSession, KnowsNoMore};
 ghost use Rattle.tg_store.specs.Outcomes.{BeginSays, CommitSays, CommitFaultSays};
-ghost use Rattle.tg_store.specs.Attempts.{AttemptSays, IsNext};
+ghost use Rattle.tg_store.specs.Attempts.{AttemptSays, EndsBy, IsNext};
 ghost use Rattle.tg_store.specs.declared.outcomes.Begun.TheVariants as Begun;
+ghost use Rattle.tg_store.specs.declared.outcomes.Committed.TheVariants as Committed;
+ghost use Rattle.tg_store.specs.declared.running_sessions.Attempt.TheVariants as Attempt;
 ghost use Rattle.tg_store.specs.declared.weighing.Weighed.TheVariants as Weighed;
 
 use crate::answers::Steps;
@@ -51,7 +53,8 @@ pub enum Attempt {
 impl Session {
     // A session without steps.
     pub(crate) fn open(seat: Seat) -> Session
-        requires { seat.taken ≡ length seat.pass.seen }
+        requires all { seat.taken ≡ length seat.pass.seen }
+        requires no_more { KnowsNoMore seat }
         ensures { BeginSays seat (Begun.Session result) }
     {
         // its contract says what is true of the seat
@@ -151,9 +154,23 @@ impl Session {
     // Ends by a fault.
     fn end(self, fault: CommitFault) -> Attempt
         requires { CommitFaultSays self.steps fault self.seat }
-        ensures { AttemptSays self result }
+        ensures says { AttemptSays self result }
+        ensures ends { result ≡ Attempt.Over (Committed.Refused self.seat fault) }
     {
         Attempt::Over(Committed::Refused(self.abort(), fault))
+    }
+
+    // Rests on the next record that its seat has seen, or ends, by what that is to the session.
+    fn go_by(self, weighed: Weighed) -> Attempt
+        requires next { IsNext self weighed }
+        requires left { self.seat.taken < length self.seat.pass.seen }
+        ensures says { AttemptSays self result }
+        ensures ends { EndsBy self weighed result }
+    {
+        match weighed {
+            Weighed::Clear(draft) => self.rest_on(draft),
+            Weighed::Ends(fault) => self.end(fault),
+        }
     }
 
     // Takes in the next record that its seat has seen, unless that ends the session.
@@ -163,16 +180,16 @@ impl Session {
         ensures { AttemptSays self result }
     {
         match self.weigh(journal) {
-            Ok(Weighed::Clear(draft)) => self.rest_on(draft),
-            Ok(Weighed::Ends(fault)) => self.end(fault),
+            Ok(weighed) => self.go_by(weighed),
             Err(AllocError) => Attempt::Over(Committed::Again(self)),
         }
     }
 
-    // Puts its record in the next cell, or sees the one that got there first.
-    fn put(self, journal: &Journal<Record>) -> Attempt
+    // Offers its record to the next cell, which it has not seen, or sees the one that got there first.
+    fn offer(self, journal: &Journal<Record>) -> Attempt
         requires cells { self.seat.pass.cells ≡ journal.now }
         requires all { self.seat.taken ≡ length self.seat.pass.seen }
+        requires free { length self.seat.pass.seen < length self.seat.pass.cells }
         ensures { AttemptSays self result }
     {
         let Session { seat, staged } = self;
@@ -200,6 +217,18 @@ impl Session {
                 }
             }
         }
+    }
+
+    // Puts its record. Whether a cell is free is looked at before any room is asked for.
+    fn put(self, journal: &Journal<Record>) -> Attempt
+        requires cells { self.seat.pass.cells ≡ journal.now }
+        requires all { self.seat.taken ≡ length self.seat.pass.seen }
+        ensures { AttemptSays self result }
+    {
+        if self.seat.is_full() {
+            return self.end(CommitFault::JournalFull);
+        }
+        self.offer(journal)
     }
 
     // Puts its record where no further one is found.

@@ -6,7 +6,7 @@ ghost use Rattle.tg_store.specs.Running.{IsOf};
 use crate::desks::opened;
 use crate::scripts::{Deed, name, set, step_of};
 use crate::{
-    Answered, BeginFault, Begun, Committed, Record, Seat, Session, Store, StoreFault,
+    Answered, BeginFault, Begun, CommitFault, Committed, Record, Seat, Session, Store, StoreFault,
     StoreMeetFault,
 };
 use std::alloc::{AllocError, Global};
@@ -27,8 +27,8 @@ fn four(rt: &impl Abort, alloc: Global) -> Option<Graph> {
     Some(graph)
 }
 
-// A store over the four vertices with two seats.
-fn opened_on_four(rt: &impl Abort, alloc: Global) -> (Store, Seat, Seat)
+// A store over the four vertices with two seats and so many cells.
+fn opened_with(rt: &impl Abort, alloc: Global, cells: usize) -> (Store, Seat, Seat)
     ensures one { IsOf result.0 result.1 }
     ensures two { IsOf result.0 result.2 }
 {
@@ -36,11 +36,19 @@ fn opened_on_four(rt: &impl Abort, alloc: Global) -> (Store, Seat, Seat)
         Some(graph) => graph,
         None => four(rt, alloc).expect(rt, "a graph"),
     };
-    let first = opened(alloc, &graph, 4);
+    let first = opened(alloc, &graph, cells);
     match first {
-        Err(StoreFault::Memory) => opened(alloc, &graph, 4).expect(rt, "a store"),
+        Err(StoreFault::Memory) => opened(alloc, &graph, cells).expect(rt, "a store"),
         made => made.expect(rt, "a store"),
     }
+}
+
+// One with four cells.
+fn opened_on_four(rt: &impl Abort, alloc: Global) -> (Store, Seat, Seat)
+    ensures one { IsOf result.0 result.1 }
+    ensures two { IsOf result.0 result.2 }
+{
+    opened_with(rt, alloc, 4)
 }
 
 fn begun(rt: &impl Abort, store: &Store, seat: Seat) -> Session
@@ -69,6 +77,13 @@ fn creates(rt: &impl Abort, session: &mut Session) -> bool
     ensures { session.new.seat ≡ session.old.seat }
 {
     session.step(step_of(rt, Deed::Create(*b"dn", b"g"))) == Ok(Reply::Done)
+}
+
+// Whether d is said to create m.
+fn creates_another(rt: &impl Abort, session: &mut Session) -> bool
+    ensures { session.new.seat ≡ session.old.seat }
+{
+    session.step(step_of(rt, Deed::Create(*b"dm", b"g"))) == Ok(Reply::Done)
 }
 
 // Whether z is said to be no vertex.
@@ -159,6 +174,21 @@ fn refused_commit_behind_another(rt: HostRuntime) {
         one.graph()
             .holds(name(&rt, b'a'), Right::R, name(&rt, b'c'))
     );
+}
+
+// Where every cell is taken, a commit is told so, whether or not there is room for the vertex that it creates.
+#[test]
+fn a_full_journal_before_want_of_room(rt: HostRuntime) {
+    let (store, one, two) = opened_with(&rt, rt.alloc(), 1);
+    assert!(rt; put_first(&rt, &store, two).taken() == 1);
+    let mut session = begun(&rt, &store, one);
+    let staged = creates_another(&rt, &mut session) || creates_another(&rt, &mut session);
+    assert!(rt; staged);
+    let full = matches!(
+        store.commit(session),
+        Committed::Refused(_, CommitFault::JournalFull)
+    );
+    assert!(rt; full);
 }
 
 // How many vertices there are, whether d has g over n, and whether a has r over c.

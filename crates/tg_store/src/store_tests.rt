@@ -5,9 +5,9 @@ ghost use Rattle.tg_store.specs.Running.{IsOf};
 use crate::desks::{Desk, agreeing, met, opened};
 use crate::scripts::Deed::{Abort, Begin, Commit, Holds, Share, Take};
 use crate::scripts::Word::{Did, Done, No, Put, Yes};
-use crate::scripts::name;
+use crate::scripts::{name, step_of};
 use crate::test_helpers::{graph, shows};
-use crate::{Begun, Committed, Seat, Store};
+use crate::{Begun, Committed, Seat, Session, Store};
 use std::alloc::{AllocError, Global};
 use std::test::Fail;
 use std::{process, thread};
@@ -184,5 +184,26 @@ fn two_seats(rt: HostRuntime) -> Result<(), Fail> {
     let (two, others) = second?;
     assert!(rt; all_apart(places.as_slice(), others.as_slice()));
     united(&rt, &store, one, two);
+    Ok(())
+}
+
+// Asks four times whether a can come to have w over c, which nobody has.
+fn ask_often(rt: &impl process::Abort, session: &mut Session) {
+    for _ in 0..4 {
+        let reply = session.step(step_of(rt, Share(Right::W, *b"ac")));
+        assert!(rt; reply == Ok(Reply::No));
+    }
+}
+
+// Four questions that no edge answers are enough for a session to keep what they found.
+#[test]
+fn four_questions_are_kept(rt: HostRuntime) -> Result<(), Fail> {
+    let g = graph(&rt, rt.alloc(), b"abc", &[*b"abt", *b"bcr"])?;
+    let (store, one, _two) = opened(rt.alloc(), &g, 4)?;
+    let Begun::Session(mut session) = store.begin(one) else {
+        panic!(rt; "no session");
+    };
+    ask_often(&rt, &mut session);
+    assert!(rt; session.knows_any());
     Ok(())
 }

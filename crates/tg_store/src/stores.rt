@@ -1,5 +1,5 @@
 //! A monitor for running threads, which takes no lock.
-ghost use Rattle.std.specs.Prelude.{◌≡◌, ◌↔◌, ◌+◌, ◌<◌, [], ℕ, All, IsTrue, IfOk, IfErr, IfSome, Some, None, length, map, slice_get, take};
+ghost use Rattle.std.specs.Prelude.{◌≡◌, ◌↔◌, ◌+◌, ◌<◌, [], ℕ, All, IsTrue, IfOk, OnOk, IfErr, IfSome, Some, None, length, map, slice_get, take};
 ghost use Rattle.std.specs.Arc.{arc_value};
 ghost use Rattle.std.specs.Option.{option_copied};
 ghost use Rattle.tg_graph.specs.GraphOf.{graph_of};
@@ -9,7 +9,7 @@ ghost use Rattle.tg_store.specs.declared.records.Record.{Record};
 ghost use Rattle.tg_store.specs.Histories.{IsLegal};
 ghost use Rattle.tg_store.specs.Worlds.{opening_fault};
 ghost use Rattle.tg_store.specs.Running.{RunningSeat, IsOf, IsSeat, GoesOn, PutsNothing, seat_number, seat_from, first_seat};
-ghost use Rattle.tg_store.specs.Outcomes.{told_fault, StartFaultSays, BeginSays, CommitSays, MeetFaultSays};
+ghost use Rattle.tg_store.specs.Outcomes.{told_fault, StartFaultSays, BeginSays, CommitSays, MeetFaultSays, HasSeenLonger, MeetingEnds};
 ghost use Rattle.tg_store.specs.Agreed.{has_number, AreOfSeats, AreAgreed};
 
 use crate::events::StoreFault;
@@ -129,7 +129,8 @@ impl Store {
 
     /// Takes in the records that are left, one at a time, and puts the session after them.
     ///
-    /// `Again` means that memory was refused and nothing put: the session goes on.
+    /// `Again` means that memory was refused and nothing put: the session goes on. Where every cell is
+    /// taken the answer is `JournalFull`, before any room is asked for.
     pub fn commit(&self, session: Session) -> Committed
         requires { IsOf self.now session.seat }
         ensures { CommitSays session result }
@@ -146,7 +147,12 @@ impl Store {
         seat.front(&self.journal)
     }
 
-    /// Has the seat see what the front has seen, and take in all that it has seen.
+    /// Has the seat see what the front has seen, whichever of the two has seen more, and take in all that
+    /// it has seen.
+    ///
+    /// Its faults: `Foreign` where the front has, at a place that the seat had not seen, a record of
+    /// the seat's own number; the seat has then seen what the front has before that place. `Memory`
+    /// where memory was refused; the seat has then seen all, and has taken in some of it.
     pub fn meet(&self, seat: &mut Seat, front: &Front<Record>) -> Result<(), StoreMeetFault>
         requires seat { IsOf self.now seat.old }
         requires front { front.now.cells ≡ take (length front.now.seen) self.now.cells }
@@ -154,7 +160,10 @@ impl Store {
         ensures met { IfOk result
             (λ _. Begins front.now.seen seat.new.pass.seen
             × (seat.new.taken ≡ length seat.new.pass.seen)) }
+        ensures longer { OnOk result (HasSeenLonger front.now seat.old.pass seat.new.pass) }
         ensures refused { IfErr result (λ fault. MeetFaultSays fault seat.new) }
+        ensures ends { IfErr result
+            (λ fault. MeetingEnds fault front.now seat.old.pass seat.new.pass) }
         ensures seat { IsSeat seat.new }
     {
         if let Err(place) = seat.meet(&self.journal, front) {

@@ -1,11 +1,12 @@
-use Rattle.std.proofs.Common.{take, All}
-use Rattle.tg_journal.specs.Lists.{Begins}
-use Rattle.tg_store.specs.Running.{GoesOn}
-use Rattle.officer.specs.Races.{taken_in}
+use Rattle.std.proofs.Common.{take}
+use Rattle.tg_store.specs.Running.{IsSeat, GoesOn, PutsNothing}
+use Rattle.officer.specs.RaceParts.{MeetsAll}
 use Rattle.officer.proofs.race.meet_all.Given as goal
 
 abbrev pub invariant-loop-other : goal.invariant-loop-other
 invariant-loop-other l = record {
   goes_on : GoesOn l.fn.seat l.seat;
-  met : All (λ other. Begins other.pass.seen (taken_in l.seat)) (take l.other-index l.others);
+  nothing_put : PutsNothing l.fn.seat l.seat;
+  seat : IsSeat l.seat;
+  met : MeetsAll l.fn.seat (take l.other-index l.others) l.seat;
 }

@@ -11,6 +11,8 @@ pub returns-in-Foreign : goal.returns-in-Foreign
 returns-in-Foreign c =
     let s = c.self.inside.seat in
     let u = c.look.new.self in
-    let all = subst (λ (s : RunningSession). s.seat.taken ≡ length s.seat.pass.seen) (sym c.self.view_is) c.requires.all in
-    subst (λ s. CommitSays s (Refused u (Foreign c.in-Foreign.place))) c.self.view_is
-    (look-foreign s u c.self.inside.staged.kept.items c.in-Foreign.place all (subst (λ look. LookSays s look u) c.in-Foreign.is c.look.ensures))
+    let all = subst (λ (s : RunningSession). s.seat.taken ≡ length s.seat.pass.seen) (sym c.self.view_is) c.requires.all in (
+      subst (λ s. CommitSays s (Refused u (Foreign c.in-Foreign.place))) c.self.view_is
+          (look-foreign s u c.self.inside.staged.kept.items c.in-Foreign.place all (subst (λ look. LookSays s look u) c.in-Foreign.is c.look.ensures)),
+      tt,
+    )
