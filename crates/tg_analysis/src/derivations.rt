@@ -129,11 +129,11 @@ fn derive(
 /// One list of rules that gives `x` each right of the set over `y`, accepted one after another;
 /// none where no list does.
 ///
-/// The rights come in the order of their letters, each with the rules that `derivation` gives for
-/// it alone, but for the helpers: along a shortest chain of links of this graph, by the cases that
-/// hold in this graph. A right that `x` has in this graph costs no rule. A helper is the vertex `_k`
-/// with the least number k that is not in use after the rules before. For the empty set the list is
-/// empty.
+/// The rights come in the order of their letters, each along some shortest chain of links of this
+/// graph from a vertex that holds it here, by the cases that hold in this graph. That it is the chain
+/// of `derivation` is not said. A right that `x` has in this graph costs no rule. A helper is the
+/// vertex `_k` with the least number k that is not in use after the rules before. For the empty set
+/// the list is empty.
 ///
 /// # Errors
 /// - `Unknown`: the first of `x` and `y` that is no vertex.

@@ -41,7 +41,7 @@ impl DisjointSets {
 
     /// So many positions, each in a set of its own, which has the position's number.
     ///
-    /// The one error is want of memory.
+    /// The error is want of memory, or a position of 2^32 or more.
     pub fn apart(alloc: Global, count: usize) -> Result<DisjointSets, AllocError>
         ensures { IfOk result (AreApart count) }
     {

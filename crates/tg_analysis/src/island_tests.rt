@@ -1,7 +1,7 @@
 use crate::links::Links;
 use crate::numbering::Islands;
 use crate::test_answers::{assert_numbers, islands_of};
-use crate::test_graphs::{graph, name};
+use crate::test_graphs::{graph, most_vertices, name};
 use std::alloc::{AllocError, Global};
 use std::process::Abort;
 use std::test::Fail;
@@ -76,5 +76,16 @@ fn islands_of_one(rt: HostRuntime) -> Result<(), Fail> {
     let g = graph(&rt, rt.alloc(), "a b c", "a b rwead, c b a, c a d");
     let found = islands_of(rt.alloc(), &g)?;
     assert_numbers(&rt, &found, 3, &[0, 1, 2]);
+    Ok(())
+}
+
+// The first and the last of so many vertices are in one island, and each other vertex is alone.
+#[test]
+fn islands_of_most_vertices(rt: HostRuntime) -> Result<(), Fail> {
+    let g = most_vertices(&rt, rt.alloc(), "_4095 _0 t");
+    let found = islands_of(rt.alloc(), &g)?;
+    assert!(rt; found.count() == 4095 && found.of(0) == Some(0));
+    assert!(rt; found.of(4094) == Some(4094) && found.of(4095) == Some(0));
+    assert!(rt; found.of(4096).is_none());
     Ok(())
 }

@@ -117,7 +117,7 @@ impl Positions {
 
     /// Adds a position behind the others.
     ///
-    /// The one error is want of memory.
+    /// The error is want of memory, or a position of 2^32 or more.
     #[inline(always)]
     pub fn add(&mut self, position: usize) -> Result<(), AllocError>
         ensures { OnOk result (self.new ≡ self.old ++ position ∷ []) }

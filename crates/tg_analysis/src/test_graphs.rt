@@ -58,15 +58,19 @@ fn add_edge(rt: &impl Abort, graph: &mut Graph, line: &str) {
     assert!(rt; graph.add_edge(source, target, rights).is_ok());
 }
 
+fn add_edges(rt: &impl Abort, graph: &mut Graph, edges: &str) {
+    for edge in edges.split(',') {
+        add_edge(rt, graph, edge);
+    }
+}
+
 /// The graph with these vertices, in this order, and these edges.
 pub(crate) fn graph(rt: &impl Abort, alloc: Global, vertices: &str, edges: &str) -> Graph {
     let mut graph = Graph::new(alloc);
     for vertex in vertices.split_whitespace() {
         add_vertex(rt, &mut graph, name(rt, vertex));
     }
-    for edge in edges.split(',') {
-        add_edge(rt, &mut graph, edge);
-    }
+    add_edges(rt, &mut graph, edges);
     graph
 }
 
@@ -76,6 +80,13 @@ pub(crate) fn numbered(rt: &impl Abort, alloc: Global, count: u32) -> Graph {
     for number in 0..count {
         add_vertex(rt, &mut graph, Name::helper(number));
     }
+    graph
+}
+
+/// The graph with as many vertices as there may be, _0 to _4095, and these edges.
+pub(crate) fn most_vertices(rt: &impl Abort, alloc: Global, edges: &str) -> Graph {
+    let mut graph = numbered(rt, alloc, 4096);
+    add_edges(rt, &mut graph, edges);
     graph
 }
 

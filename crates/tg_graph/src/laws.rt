@@ -47,9 +47,9 @@ pub fn the_least_refusal_is_given()
     ensures full { NeverFull }
 {}
 
-/// A rights word is `-`, or letters of `t`, `g`, `r`, `w` and `e`, none twice. It is read as the
-/// set of exactly the rights whose letters it has, and no other bytes are read. The letters of a
-/// set are in that order, and read as the set.
+/// A rights word is `-`, or letters of `t`, `g`, `r`, `w`, `e`, `a` and `d`, none twice. It is read
+/// as the set of exactly the rights whose letters it has, and no other bytes are read. The letters
+/// of a set are in that order, and read as the set.
 pub fn rights_words_are_exact()
     ensures read { RightsWordsExactly }
     ensures order { LettersInOrder }

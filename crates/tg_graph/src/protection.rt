@@ -109,7 +109,9 @@ pub enum EdgeFault {
     EdgeThere,
     /// The label is empty.
     Empty,
-    /// A request for memory was refused.
+    /// A request for memory was refused, or the source's row has no number below 2^24 for the target: the
+    /// target's name has a number of 2^24 or more among those that the row shares, or takes to share with
+    /// its first edge, or it is not among them and the row has 2^24 names already, shared ones and its own.
     Memory,
 }
 
@@ -565,8 +567,10 @@ impl Graph {
         Ok(Graph::of_rows(rows, names, self.alloc))
     }
 
-    /// A copy that shares nothing with this graph, for another thread: neither of them then touches
-    /// a word of the other.
+    /// A graph with the same vertices at the same positions, and the same edges. It is built to share
+    /// no row and no name with this one, for another thread. That is tested and not proved, as a contract
+    /// sees the same value either way. It fails where a request for memory is refused, and where the name
+    /// of a target has a number of 2^24 or more among those of all vertices.
     pub fn copy_unshared(&self) -> Result<Graph, AllocError>
         ensures { IfOk result (λ copy. copy ≡ self.now) }
     {

@@ -4,7 +4,7 @@ use crate::listed_edges::ListedEdges;
 use crate::names::Name;
 use crate::protection::Graph;
 use crate::shared_names::SharedNames;
-use crate::test_values::{create, grant, name, remove, same, set, with_edge, with_vertex};
+use crate::test_values::{create, grant, name, remove, same, set, three, with_edge, with_vertex};
 use std::alloc::{AllocError, Global};
 use std::cmp::Ordering;
 use std::process::Abort;
@@ -122,6 +122,37 @@ fn vertices_among_edges_make_the_same_graph(rt: HostRuntime) -> Result<(), Fail>
     let g = one_by_one(&rt, rt.alloc(), 12);
     assert!(rt; same(&g, &all_at_once(&rt, rt.alloc(), 12)));
     has_same_copies(&rt, &g)
+}
+
+// Each row of the graph has so many owners.
+fn rows_have_owners(rt: &impl Abort, g: &Graph, owners: usize) {
+    for (_, row) in &g.rows {
+        assert!(rt; row.owners() == owners);
+    }
+}
+
+// How many owners the names have that the rows of the graph share.
+fn owners_of_names(g: &Graph) -> Option<usize> {
+    Some(g.names.as_ref()?.owners())
+}
+
+fn copies_apart(rt: &impl Abort, g: &Graph) -> Result<(), Fail> {
+    let owners = owners_of_names(g);
+    let unshared = g.copy_unshared()?;
+    rows_have_owners(rt, g, 1);
+    rows_have_owners(rt, &unshared, 1);
+    assert!(rt; owners.is_some() && owners_of_names(g) == owners);
+    Ok(())
+}
+
+// A contract sees the same rows, shared or not.
+#[test]
+fn an_unshared_copy_shares_no_row(rt: HostRuntime) -> Result<(), Fail> {
+    let g = three(&rt, rt.alloc())?;
+    copies_apart(&rt, &g)?;
+    let shared = g.copy()?;
+    rows_have_owners(&rt, &shared, 2);
+    Ok(())
 }
 
 // Vertices that come after those whose edges lead to them, not in name order.

@@ -63,7 +63,9 @@ pub enum Refusal {
 pub enum RuleFault {
     /// The graph does not accept the rule.
     Refused(Refusal),
-    /// A request for memory was refused.
+    /// A request for memory was refused, or a row has no number below 2^24 for a target: for that of an edge
+    /// which the rule adds, as `EdgeFault::Memory` says, or where a remove takes an edge out of a row with
+    /// an edge to each of more than 2^24 shared names.
     Memory,
 }
 

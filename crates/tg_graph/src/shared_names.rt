@@ -208,6 +208,12 @@ impl SharedNames {
         })
     }
 
+    /// How many owners the names have.
+    #[cfg(test)]
+    pub fn owners(&self) -> usize {
+        Arc::strong_count(&self.table)
+    }
+
     /// How many names there are.
     pub fn len(&self) -> usize
         ensures { result ≡ length self.now }

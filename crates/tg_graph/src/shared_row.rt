@@ -83,6 +83,12 @@ impl SharedRow {
         })
     }
 
+    /// How many owners the edges have.
+    #[cfg(test)]
+    pub fn owners(&self) -> usize {
+        Arc::strong_count(&self.row)
+    }
+
     /// The edges.
     pub fn edges(&self) -> &Row
         ensures { result.now ≡ self.now }
