@@ -1,7 +1,7 @@
 use crate::call::run;
 use crate::deliver::{DeliverFault, deliver};
 use crate::fault::{Cause, fault_line};
-use crate::fetch::{FetchFault, MOST_BYTES, fetch};
+use crate::fetch::{FetchFault, MOST_BYTES, Reads, fetch, fetch_counting};
 use crate::surroundings::{Process, Surroundings, WordsFault};
 use crate::test_words::{calls_for, no_call};
 use crate::words::{Call, Command};
@@ -52,20 +52,32 @@ impl Read for Zeros {
     }
 }
 
-// Gives a text, and is interrupted before each read of it.
+// Gives a text, a byte at each read. Where it pauses, it is interrupted before each byte.
 #[derive(Drop)]
-struct Interrupted<'a> {
+struct Slow<'a> {
     text: &'a [u8],
-    again: bool,
+    pauses: bool,
+    paused: bool,
 }
 
-impl Read for Interrupted<'_> {
+impl Read for Slow<'_> {
     fn read(&mut self, buf: &mut [u8]) -> io::Result<usize> {
-        self.again = !self.again;
-        if self.again {
+        self.paused = self.pauses && !self.paused;
+        if self.paused {
             return Err(Error::from(ErrorKind::Interrupted));
         }
-        self.text.read(buf)
+        let room = buf.len().min(1);
+        self.text.read(&mut buf[..room])
+    }
+}
+
+// Is interrupted at each read.
+#[derive(Drop)]
+struct Busy;
+
+impl Read for Busy {
+    fn read(&mut self, _buf: &mut [u8]) -> io::Result<usize> {
+        Err(Error::from(ErrorKind::Interrupted))
     }
 }
 
@@ -135,17 +147,47 @@ fn is_read<R: Read>(rt: &impl Abort, alloc: Global, reader: &mut R, text: &[u8])
     assert!(rt; bytes.is_ok_and(|bytes| bytes.as_slice() == text));
 }
 
+// A text of 3,000 bytes, in which no two that stand beside each other are the same.
+fn long_text(alloc: Global) -> Result<Vec<u8>, AllocError> {
+    let mut text = Vec::new(alloc);
+    for _ in 0..300 {
+        text.extend_from_slice(b"0123456789")?;
+    }
+    Ok(text)
+}
+
 #[test]
-fn fetches_all(rt: HostRuntime) {
-    let text = b"vertex a\n".as_slice();
+fn fetches_all(rt: HostRuntime) -> Result<(), Fail> {
+    let long = long_text(rt.alloc())?;
+    let text = long.as_slice();
     let mut whole = text;
     is_read(&rt, rt.alloc(), &mut whole, text);
-    is_read(
-        &rt,
-        rt.alloc(),
-        &mut Interrupted { text, again: false },
-        text,
-    );
+    for pauses in [false, true] {
+        let mut slow = Slow {
+            text,
+            pauses,
+            paused: false,
+        };
+        is_read(&rt, rt.alloc(), &mut slow, text);
+    }
+    Ok(())
+}
+
+// An input that is interrupted at each read, and was so until three more reads were left to it.
+fn fetch_busy(alloc: Global) -> (Result<Vec<u8>, FetchFault>, Reads) {
+    let mut reads = Reads {
+        gave: 0,
+        interrupted: 67_108_862,
+    };
+    let bytes = fetch_counting(alloc, &mut Busy, &mut reads);
+    (bytes, reads)
+}
+
+#[test]
+fn interrupted_for_ever(rt: HostRuntime) {
+    let (bytes, reads) = fetch_busy(rt.alloc());
+    assert!(rt; matches!(bytes, Err(FetchFault::TooLarge)));
+    assert!(rt; (reads.gave, reads.interrupted) == (0, 67_108_865));
 }
 
 #[test]
@@ -216,6 +258,7 @@ enum Held<T> {
     Given(T),
     Unreadable,
     TooLarge,
+    Busy,
     Memory,
 }
 
@@ -228,6 +271,10 @@ fn held_bytes(alloc: Global, text: Held<&[u8]>) -> Result<Vec<u8>, FetchFault> {
         }
         Held::Unreadable => Err(FetchFault::Unreadable),
         Held::TooLarge => Err(FetchFault::TooLarge),
+        Held::Busy => {
+            let (bytes, _reads) = fetch_busy(alloc);
+            bytes
+        }
         Held::Memory => Err(FetchFault::Memory),
     }
 }
@@ -269,7 +316,7 @@ impl Surroundings for Desk<'_> {
                 Ok(words) => Ok(words),
                 Err(AllocError) => Err(WordsFault::Memory),
             },
-            Held::Unreadable | Held::TooLarge => Err(WordsFault::Unreadable),
+            Held::Unreadable | Held::TooLarge | Held::Busy => Err(WordsFault::Unreadable),
             Held::Memory => Err(WordsFault::Memory),
         }
     }
@@ -390,6 +437,9 @@ fn an_input_that_stops(rt: HostRuntime) {
     let mut unreadable = desk_for(rt.alloc(), &[]);
     unreadable.input = Held::Unreadable;
     stops(&rt, unreadable, b"wi", Cause::Graph);
+    let mut busy = desk_for(rt.alloc(), &[]);
+    busy.input = Held::Busy;
+    stops(&rt, busy, b"wi", Cause::TooLarge);
 }
 
 #[test]
