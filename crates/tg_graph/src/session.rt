@@ -34,7 +34,7 @@ pub enum Act {
     Begin,
     /// Make the step in the open session.
     Stage(Step),
-    /// Put the open session into the journal.
+    /// Commit the open session: its record comes to stand behind all others.
     Commit,
     /// Give the open session up.
     Abort,
