@@ -116,6 +116,9 @@ plays-are events (s ∷ ss) (f ∷ fs) n h =
     by (suc k) q rest here e = rest.each k q e
 
 -- ---- the seats after their plays
+next : (k : ℕ) → k + 1 ≡ suc k
+next k = omega arith
+
 all-ends : (P : RunningSeat → Type 0) (plays : List SeatPlay) → ((k : ℕ) (p : SeatPlay) → slice_get plays k ≡ Some p → P p.end) → All P (map (λ (p : SeatPlay). p.end) plays)
 all-ends P [] h = All-nil P
 all-ends P (p ∷ ps) h = All-cons P p.end (map (λ (p : SeatPlay). p.end) ps) (h zero p refl) (all-ends P ps (λ k q e. h (suc k) q e))
@@ -147,7 +150,7 @@ module _ (store : RunningStore) (events : List ScriptLine) (plays : List SeatPla
     module _ (h : MeetsAll first others last) where
       met-each : (k : ℕ) (p : SeatPlay) → slice_get plays (k + 1) ≡ Some p → Begins p.end.pass.seen (taken_in last)
       met-each k p e =
-          let at : slice_get others k ≡ Some p.end = end-at (first ∷ others) are (k + 1) p e in
+          let at : slice_get others k ≡ Some p.end = ap (slice_get (first ∷ others)) (sym (next k)) ∙ end-at (first ∷ others) are (k + 1) p e in
           subst (λ (other : RunningSeat). Begins other.pass.seen (taken_in last)) (get_or_from_slice_get others k p.end p.end at) (h.met k p.end (slice_get_within others k p.end at))
 
       -- what each has taken in, and what it has seen
@@ -157,7 +160,7 @@ module _ (store : RunningStore) (events : List ScriptLine) (plays : List SeatPla
           by : (k : ℕ) → slice_get (first ∷ others) k ≡ Some p.end → slice_get plays k ≡ Some p → Begins (taken_in p.end) (taken_in last) × Begins p.end.pass.seen last.pass.seen
           by zero at e = subst (λ (s : RunningSeat). Begins (taken_in s) (taken_in last) × Begins s.pass.seen last.pass.seen) (some-seat first p.end at) (taken-goes_on first last go, go.seen)
           by (suc k) at e =
-              let met = met-each k p e in
+              let met = met-each k p (ap (slice_get plays) (next k) ∙ e) in
               (begins-trans (taken_in p.end) p.end.pass.seen (taken_in last) (taken-begins_seen p.end) met, begins-trans p.end.pass.seen (taken_in last) last.pass.seen met (taken-begins_seen last))
 
       -- a record of the history stands at its place where a seat has seen it
@@ -167,7 +170,7 @@ module _ (store : RunningStore) (events : List ScriptLine) (plays : List SeatPla
 
       met-others : HasMetOthers plays last
       met-others =
-          let count : length plays ≡ 1 + length others = sym (length-map plays (λ (p : SeatPlay). p.end)) ∙ sym (ap length are) in
+          let count : length plays ≡ length (first ∷ others) = sym (length-map plays (λ (p : SeatPlay). p.end)) ∙ sym (ap length are) in
           let some = play-at (first ∷ others) are h.reached.0 h.reached.1 h.reached.2 in
           record {
             first = the-first.0;
@@ -196,7 +199,7 @@ module _ (store : RunningStore) (events : List ScriptLine) (plays : List SeatPla
 
     in-foreign : (text : List ℕ) (report : ReportText) (place : ℕ) → text ≡ race_outcomes plays → MeetingsFound (meet.Foreign place) others last → report ≡ foreign_report text place → EndsInForeign plays report
     in-foreign text report place texts h says =
-        let other = play-at (first ∷ others) are (h.index + 1) h.other h.is_other in
+        let other = play-at (first ∷ others) are (h.index + 1) h.other (ap (slice_get (first ∷ others)) (next h.index) ∙ h.is_other) in
         record {
           first = the-first.0;
           is_first = the-first.1;

@@ -8,7 +8,7 @@ use Rattle.officer.proofs.running.play_event.Goals as goal
 pub append_line-requires : goal.append_line-requires
 append_line-requires c =
     let event = c.args.event.now in
-    acts_told c.args.hall.now c.act-answer.new.self event.seat event.act c.act-answer.result c.requires.seat c.requires.there c.act-answer.ensures
+    acts_told c.args.hall.now c.act-answer.new.self event.seat event.act c.act-answer.result c.requires.seat c.requires.there c.act-answer.ensures.acts
 
 pub returns : goal.returns
 returns c =
