@@ -18,7 +18,7 @@ returns c =
     let same = c.make_room.ensures.hall in
     record {
       line = line;
-      outcome = record { answer = done.result; act = subst (λ (w : World). Acts c.args.hall.now event.seat event.act done.result w) (sym same) done.ensures; told = c.in_ok-append_line.ensures.told; written = refl };
+      outcome = record { answer = done.result; act = subst (λ (w : World). Acts c.args.hall.now event.seat event.act done.result w) (sym same) done.ensures.acts; told = c.in_ok-append_line.ensures.told; written = refl };
       added = c.in_ok-append_line.ensures.appended ∙ ap (λ items. items ++ line) c.make_room.ensures.text;
-      seats = ap (λ (w : World). length w.seats) same ∙ (acts_keep c.args.hall.now done.new.self event.seat event.act done.result done.ensures).seats;
+      seats = ap (λ (w : World). length w.seats) same ∙ (acts_keep c.args.hall.now done.new.self event.seat event.act done.result done.ensures.acts).seats;
     }
