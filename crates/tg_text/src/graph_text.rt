@@ -74,7 +74,8 @@ fn add_edge_line(graph: &mut GraphBuilder, version: Version, words: &[u8]) -> Re
 }
 
 // Adds the edge of a line with these names and letters, and says whether it was added. An edge that is
-// at fault is not.
+// at fault is not, nor is one that was refused memory: its line is then read anew, word by word, and that
+// says what is wrong with it, asks for the memory once more, or finds that it is refused again.
 #[tactic(auto, unfolding(crate::specs::GraphText::edge_item))]
 fn add_plain_edge(
     graph: &mut GraphBuilder,
