@@ -34,6 +34,7 @@ pub mod SetNumbers
 pub mod JoinedHoldings
 pub mod Gathered
 pub mod ByTarget
+pub mod Reached
 pub mod Blocked
 pub mod Spreads
 pub mod LookedUp

@@ -16,3 +16,4 @@ pub mod Tables
 pub mod ByTarget
 pub mod Holders
 pub mod Positions
+pub mod Reaching

@@ -7,8 +7,8 @@ use crate::questions::AskFault;
 use crate::sharing_index::SharingIndex;
 use crate::table_faults::TableFault;
 use crate::test_answers::{
-    all_derived, assert_no_table, assert_numbers, assert_table, derived, islands_of, shares,
-    shares_all, table_of,
+    all_derived, assert_no_table, assert_numbers, assert_table, derived, islands_of, reach_of,
+    shares, shares_all, table_of, who_can,
 };
 use bitflags::Flags;
 use std::test::Fail;
@@ -42,6 +42,8 @@ fn questions_refused(rt: HostRuntime) -> Result<(), Fail> {
     assert!(rt; derived(rt.alloc(), &graph, Right::R, nobody, x).err() == unknown);
     let rights = Rights::of(Right::R);
     assert!(rt; all_derived(rt.alloc(), &graph, rights, x, nobody).err() == unknown);
+    assert!(rt; who_can(rt.alloc(), &graph, Rights::READ, nobody).err() == unknown);
+    assert!(rt; reach_of(rt.alloc(), &graph, nobody).err() == unknown);
     assert_no_table(&rt, rt.alloc(), &graph, 0, TableFault::Workers);
     Ok(())
 }

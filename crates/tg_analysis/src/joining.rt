@@ -115,7 +115,7 @@ fn numbered(alloc: Global, sets: &[usize]) -> Result<Islands, AllocError>
 
 /// The islands of a graph, by one pass over its edges, which ends early where all vertices lie in one.
 ///
-/// The one error is want of memory.
+/// The one error: memory was refused, or a vertex has a position of 2^32 or more.
 pub fn islands(alloc: Global, graph: &Graph) -> Result<Islands, AllocError>
     ensures { IfOk result (λ numbers. AreIslands (graph_of graph.now) numbers) }
 {

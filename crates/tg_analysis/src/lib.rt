@@ -38,6 +38,9 @@ mod positions;
 mod question_tests;
 mod questions;
 #[cfg(test)]
+mod reach_tests;
+mod reaching;
+#[cfg(test)]
 mod set_tests;
 mod sharing_index;
 mod spreading;
@@ -56,6 +59,7 @@ pub use gates::{Gate, OpenGate};
 pub use joining::islands;
 pub use numbering::Islands;
 pub use questions::AskFault;
+pub use reaching::{reach, who};
 pub use sharing_index::SharingIndex;
 pub use table_faults::TableFault;
 pub use tables::{MOST_WORKERS, PairTable, pair_table};

@@ -10,8 +10,10 @@ use crate::sharing_index::SharingIndex;
 use crate::table_faults::TableFault;
 use crate::tables::PairTable;
 use crate::test_answers::{
-    all_derived, assert_numbers, assert_table, derived, islands_of, shares, shares_all, table_of,
+    all_derived, assert_numbers, assert_table, derived, islands_of, reach_of, shares, shares_all,
+    table_of, who_can,
 };
+use bitflags::Flags;
 use std::alloc::{AllocError, Global};
 use std::test::Fail;
 use std::thread::Threads;
@@ -129,6 +131,22 @@ fn shared_all(alloc: Global, graph: &Graph, rights: Rights) -> Result<bool, AskF
     }
 }
 
+// Who can come to have r over _2.
+fn who_again(alloc: Global, graph: &Graph) -> Result<Vec<bool>, AskFault> {
+    match who_can(alloc, graph, Rights::READ, Name::helper(2)) {
+        Err(AskFault::Memory) => who_can(alloc, graph, Rights::READ, Name::helper(2)),
+        outcome => outcome,
+    }
+}
+
+// Which rights _0 can come to have.
+fn reach_again(alloc: Global, graph: &Graph) -> Result<Vec<Rights>, AskFault> {
+    match reach_of(alloc, graph, Name::helper(0)) {
+        Err(AskFault::Memory) => reach_of(alloc, graph, Name::helper(0)),
+        outcome => outcome,
+    }
+}
+
 // By how many rules x comes to have it.
 fn rule_count(
     alloc: Global,
@@ -158,6 +176,28 @@ fn refused_questions(rt: HostRuntime) -> Result<(), Fail> {
     assert!(rt; shared(rt.alloc(), &graph, Right::R) == Ok(true));
     assert!(rt; shared_all(rt.alloc(), &graph, Rights::READ) == Ok(true));
     assert!(rt; rule_count_again(rt.alloc(), &graph, Right::R, Name::helper(0)) == Ok(Some(4)));
+    Ok(())
+}
+
+#[test]
+fn refused_lists(rt: HostRuntime) -> Result<(), Fail> {
+    let graph = three(rt.alloc())?;
+    let marks = who_again(rt.alloc(), &graph)?;
+    assert!(rt; marks.as_slice() == [true, true, false].as_slice());
+    let sets = reach_again(rt.alloc(), &graph)?;
+    assert!(rt; sets.as_slice() == [Rights::empty(), Rights::GRANT, Rights::READ].as_slice());
+    Ok(())
+}
+
+#[test]
+fn refused_lists_at_a_hub(rt: HostRuntime) -> Result<(), Fail> {
+    let graph = hub(rt.alloc())?;
+    let marks = who_again(rt.alloc(), &graph)?;
+    assert!(rt; marks.as_slice() == [true; 11].as_slice());
+    let sets = reach_again(rt.alloc(), &graph)?;
+    let (take, read) = (Rights::TAKE, Rights::READ);
+    assert!(rt; sets.len() == 11 && sets.as_slice().starts_with(&[take, take, read]));
+    assert!(rt; sets.iter().skip(3).all(|rights| rights.is_empty()));
     Ok(())
 }
 

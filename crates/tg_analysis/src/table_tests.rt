@@ -60,7 +60,7 @@ fn a_table_of_most_vertices(rt: HostRuntime) -> Result<(), Fail> {
 }
 
 // How often a block looks whether the others have entered: some seconds.
-const MOST_LOOKS: u64 = 20_000_000;
+const MOST_LOOKS: u64 = 100_000_000;
 
 // Holds each block until so many have entered. Once one has waited too long, none waits any more.
 #[derive(Drop)]

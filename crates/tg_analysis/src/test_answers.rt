@@ -6,6 +6,7 @@ use crate::gates::{Gate, OpenGate};
 use crate::joining::islands;
 use crate::numbering::Islands;
 use crate::questions::AskFault;
+use crate::reaching::{reach, who};
 use crate::table_faults::TableFault;
 use crate::tables::{PairTable, pair_table};
 use std::alloc::{AllocError, Global};
@@ -39,6 +40,21 @@ pub(crate) fn shares_all(
     y: Name,
 ) -> Result<bool, AskFault> {
     can_share_all(alloc, graph, rights, x, y)
+}
+
+/// Who can come to have each right of the set over y.
+pub(crate) fn who_can(
+    alloc: Global,
+    graph: &Graph,
+    rights: Rights,
+    y: Name,
+) -> Result<Vec<bool>, AskFault> {
+    who(alloc, graph, rights, y)
+}
+
+/// Which rights x can come to have over each vertex.
+pub(crate) fn reach_of(alloc: Global, graph: &Graph, x: Name) -> Result<Vec<Rights>, AskFault> {
+    reach(alloc, graph, x)
 }
 
 /// By which rules, if by any.
