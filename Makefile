@@ -7,12 +7,20 @@
 # make refusals   the memory tests with each request for memory refused in turn: seconds, once the
 #                 gate or rt test has built the tests
 # make man        the manual page
+# make install    puts the program, its manual page, and completions for bash and zsh below PREFIX, which is /usr/local
+#                 where none is given, as make install PREFIX=$HOME/.local; DESTDIR stands before it for packagers
+# make uninstall  takes these four files away again
 # make bench      time and peak memory of each command on heavy inputs, of 1,024 and of 4,096 vertices
 # make races      races of 16 seats, each report compared with a small model's
 # make hostile    the program with bad files, outputs and words, and little memory; half a minute
 # make fuzz       the program on random texts for a minute, each answer compared with a small model's
 
 OFFICER = crates/officer/out/officer
+PREFIX = /usr/local
+PROGRAM = $(DESTDIR)$(PREFIX)/bin/officer
+MANUAL = $(DESTDIR)$(PREFIX)/share/man/man1/officer.1
+BASH_COMPLETIONS = $(DESTDIR)$(PREFIX)/share/bash-completion/completions/officer
+ZSH_COMPLETIONS = $(DESTDIR)$(PREFIX)/share/zsh/site-functions/_officer
 FILES = examples/file_service
 GRAPH = $(FILES).graph
 
@@ -29,7 +37,7 @@ LESS_OF_CLUSTER = $(foreach kind,groups secrets pods services events,--without '
 # 9.5 GB, and leaves processors idle.
 RT_JOBS ?= $(shell awk -v most=$$(nproc) '/^MemTotal/ { n = int($$2 / 5e6); print n < 1 ? 1 : n < most ? n : most }' /proc/meminfo)
 
-.PHONY: build demo examples pictures test bodies refusals man bench races hostile fuzz
+.PHONY: build demo examples pictures test bodies refusals man install uninstall bench races hostile fuzz
 
 build:
 	@echo "Proving and building officer and the crates below it: about half an hour on four slow processors from nothing, seconds after that."
@@ -114,6 +122,19 @@ refusals:
 
 man:
 	@man ./docs/officer.1
+
+# It proves nothing, so that root may call it where the toolchain is another's.
+install:
+	@test -x $(OFFICER) || { echo "There is no $(OFFICER) yet: make build proves and builds it."; exit 1; }
+	@install -D -m 755 $(OFFICER) "$(PROGRAM)"
+	@install -D -m 644 docs/officer.1 "$(MANUAL)"
+	@install -D -m 644 completions/officer.bash "$(BASH_COMPLETIONS)"
+	@install -D -m 644 completions/_officer "$(ZSH_COMPLETIONS)"
+	@echo "$(PROGRAM) is in place, with its manual page and completions for bash and zsh."
+
+uninstall:
+	@rm -f "$(PROGRAM)" "$(MANUAL)" "$(BASH_COMPLETIONS)" "$(ZSH_COMPLETIONS)"
+	@echo "$(PROGRAM) is gone, with its manual page and completions."
 
 bench: build
 	@python3 bench/bench.py $(OFFICER)

@@ -1,0 +1,121 @@
+#!/usr/bin/env python3
+"""Puts the program in place below a scratch folder, tries what is there, and takes it away again.
+
+install.py [PROGRAM]. `make install` has to put four files in place, of which the program answers as
+the built one does, the manual page is the one of docs/, and the completions offer what fits; `make
+uninstall` has to take just these four away. Without PROGRAM a script that prints its words stands
+for it. What is tried of zsh alone is left out where zsh is not there. The last line is `N cases, M
+failures`; the status is 1 where a case failed.
+"""
+import argparse
+import os
+import shutil
+import subprocess
+import sys
+import tempfile
+from pathlib import Path
+
+TOP = Path(__file__).resolve().parent.parent
+GRAPH = TOP / "examples/file_service.graph"
+STANDS_FOR_PROGRAM = '#!/bin/sh\nprintf "%s\\n" "$@"\n'
+MANUAL = "share/man/man1/officer.1"
+BASH_COMPLETIONS = "share/bash-completion/completions/officer"
+ZSH_COMPLETIONS = "share/zsh/site-functions/_officer"
+# Each file with its permissions.
+FILES = {
+    "bin/officer": 0o755,
+    MANUAL: 0o644,
+    BASH_COMPLETIONS: 0o644,
+    ZSH_COMPLETIONS: 0o644,
+}
+# The words of a command line, the last one as far as it was typed, and what bash offers for it.
+OFFERS = [
+    (["sh"], ["share"]),
+    (["r"], ["run", "race"]),
+    (["nothing"], []),
+    (["share", str(GRAPH)[:-3]], [str(GRAPH)]),
+    (["share", str(GRAPH), ""], list("tgrwead")),
+    (["share", str(GRAPH), "r", "p"], ["payroll"]),
+    (["derive", str(GRAPH), "r", "client", "c"], ["clerk", "client"]),
+    (["derive", str(GRAPH), "r", "client", "payroll", ""], []),
+    (["share", "/no/such/graph", "r", ""], []),
+    (["check", str(GRAPH), ""], []),
+    (["table", str(GRAPH), "r", "-"], ["--workers"]),
+    (["table", str(GRAPH), "r", "--workers", "1"], ["1", "10", "11", "12", "13", "14", "15", "16"]),
+]
+
+
+def make(target, *settings):
+    """Calls make for a target."""
+    command = ["make", "--no-print-directory", "-C", TOP, target, *settings]
+    return subprocess.run(command, capture_output=True, text=True)
+
+
+def tree(folder):
+    """The files below a folder, with their permissions."""
+    files = (path for path in folder.rglob("*") if not path.is_dir())
+    return {str(path.relative_to(folder)): path.stat().st_mode & 0o777 for path in files}
+
+
+def offered(completions, words):
+    """What bash offers for the last of the words."""
+    script = 'source "$1"; shift; COMP_WORDS=(officer "$@"); COMP_CWORD=$#; _officer; printf "%s\\n" "${COMPREPLY[@]}"'
+    found = subprocess.run(["bash", "-c", script, "bash", completions, *words], capture_output=True, text=True)
+    return found.stdout.split()
+
+
+def answers(program, words):
+    """The report of a program for its words, and its status."""
+    done = subprocess.run([program, *words], capture_output=True, text=True)
+    return done.stdout, done.returncode
+
+
+def placed_cases(folder, built):
+    """What was put below a folder."""
+    words = ["share", str(GRAPH), "r", "client", "payroll"]
+    yield "the four files, with their permissions", tree(folder) == FILES
+    yield "the program answers as the built one", answers(folder / "bin/officer", words) == answers(built, words)
+    yield "the manual page", (folder / MANUAL).read_bytes() == (TOP / "docs/officer.1").read_bytes()
+    for words, offers in OFFERS:
+        yield f"bash offers {offers} for {words}", offered(folder / BASH_COMPLETIONS, words) == offers
+    if shutil.which("zsh"):
+        yield "zsh reads its completions", not subprocess.run(["zsh", "-n", folder / ZSH_COMPLETIONS]).returncode
+
+
+def install_cases(scratch, built):
+    """Each case with whether it holds."""
+    place, stage = scratch / "a place", scratch / "a stage"
+    at_place = f"PREFIX={place}", f"OFFICER={built}"
+    missing = make("install", f"PREFIX={place}", f"OFFICER={scratch}/missing")
+    yield "no program, nothing is put in place", missing.returncode and "make build" in missing.stdout and not place.exists()
+    yield "make install", not make("install", *at_place).returncode
+    yield from placed_cases(place, built)
+    yield "make install once more", not make("install", *at_place).returncode and tree(place) == FILES
+    (place / "bin/another").touch()
+    yield "make uninstall", not make("uninstall", *at_place).returncode
+    yield "what is not its own stays, and nothing else", list(tree(place)) == ["bin/another"]
+    yield "make uninstall once more", not make("uninstall", *at_place).returncode
+    staged = *at_place, f"DESTDIR={stage}"
+    yield "make install for a packager", not make("install", *staged).returncode
+    yield "all is below the stage", tree(stage / place.relative_to("/")) == FILES and list(tree(place)) == ["bin/another"]
+
+
+def main():
+    parser = argparse.ArgumentParser(description="Tries make install and make uninstall in a scratch folder.")
+    parser.add_argument("program", nargs="?", help="the program that is put in place")
+    program = parser.parse_args().program
+    with tempfile.TemporaryDirectory() as folder:
+        scratch = Path(folder)
+        stand_in = scratch / "stand_in"
+        stand_in.write_text(STANDS_FOR_PROGRAM)
+        stand_in.chmod(0o755)
+        cases = list(install_cases(scratch, os.path.abspath(program) if program else stand_in))
+    failures = [title for title, holds in cases if not holds]
+    for title in failures:
+        print(f"FAILED {title}")
+    print(f"{len(cases)} cases, {len(failures)} failures")
+    return bool(failures)
+
+
+if __name__ == "__main__":
+    sys.exit(main())
