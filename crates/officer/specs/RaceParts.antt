@@ -72,7 +72,7 @@ pub record EndsInFault (text : List ℕ) (fault : StoreMeetFault) (report : Repo
   pub says : report ≡ foreign_report text place
 
 -- ---- the meetings
--- the seat has met one other, and put nothing
+-- the seat has met one other: it has taken in all that it has seen, which is as long as what the longer of the two had seen
 pub record MeetsOne (old other new : RunningSeat) : Type 0 where
   pub met : Begins other.pass.seen (taken_in new)
   pub all : new.taken ≡ length new.pass.seen

@@ -81,6 +81,10 @@ fn read_on<R: Read>(
 
 /// All bytes that a reader gives up to its end, and how many reads there were, with those that were
 /// interrupted before. A read that was interrupted is tried again.
+///
+/// Its errors: `TooLarge` where there are more than `MOST_BYTES` bytes, or where 67,108,865 reads, those
+/// interrupted before among them, did not come to the end; `Unreadable` where a read failed; `Memory`
+/// where there was none for the bytes. What was read is lost then.
 pub fn fetch_counting<R: Read>(
     alloc: Global,
     reader: &mut R,
@@ -106,6 +110,9 @@ pub fn fetch_counting<R: Read>(
 }
 
 /// All bytes that a reader gives up to its end. A read that was interrupted is tried again.
+///
+/// Its errors are those of `fetch_counting`, with no read interrupted before. The contract says so of some
+/// number of reads alone, and too large leaves that open.
 pub fn fetch<R: Read>(alloc: Global, reader: &mut R) -> Result<Vec<u8>, FetchFault>
     ensures whole { IfOk result
         (λ bytes. IfSome (R.remaining reader.old) (λ given. bytes.items ≡ given)) }

@@ -105,7 +105,7 @@ pub fn report<R: Threads + Sync>(
 }
 
 /// The report of a command for its texts, which are let go of. It is made in the memory of the first
-/// where it is the graph of that text.
+/// where it is the graph of that text; no contract speaks of that.
 ///
 /// An error means that there was no memory. A table alone starts threads, and waits for them.
 pub fn report_of_texts<R: Threads + Sync>(

@@ -52,6 +52,23 @@ impl Read for Zeros {
     }
 }
 
+// Gives a text, and is interrupted before each read of it.
+#[derive(Drop)]
+struct Interrupted<'a> {
+    text: &'a [u8],
+    again: bool,
+}
+
+impl Read for Interrupted<'_> {
+    fn read(&mut self, buf: &mut [u8]) -> io::Result<usize> {
+        self.again = !self.again;
+        if self.again {
+            return Err(Error::from(ErrorKind::Interrupted));
+        }
+        self.text.read(buf)
+    }
+}
+
 // Gives a text, a byte at each read. Where it pauses, it is interrupted before each byte.
 #[derive(Drop)]
 struct Slow<'a> {
@@ -171,6 +188,17 @@ fn fetches_all(rt: HostRuntime) -> Result<(), Fail> {
         is_read(&rt, rt.alloc(), &mut slow, text);
     }
     Ok(())
+}
+
+#[test]
+fn fetches_after_interruptions(rt: HostRuntime) {
+    let text = b"vertex a\n".as_slice();
+    is_read(
+        &rt,
+        rt.alloc(),
+        &mut Interrupted { text, again: false },
+        text,
+    );
 }
 
 // An input that is interrupted at each read, and was so until three more reads were left to it.

@@ -47,7 +47,7 @@ abbrev pub BeginFaultSays : BeginFault → RunningSeat → Type 0
 BeginFaultSays (begin.Foreign place) new = FindsForeign place new
 BeginFaultSays begin.Memory new = ⊤
 
--- a session without steps, on all that its seat has seen or knows of; or the seat again
+-- a session without steps, on all that its seat has seen, which knows of no record at the place behind; or the seat again
 abbrev pub BeginSays : RunningSeat → Begun → Type 0
 BeginSays old (begun.Session s) = GoesOn old s.seat × PutsNothing old s.seat × (s.steps ≡ []) × (s.seat.taken ≡ length s.seat.pass.seen) × IsSession s × KnowsNoMore s.seat
 BeginSays old (begun.Refused new fault) = GoesOn old new × PutsNothing old new × BeginFaultSays fault new × IsSeat new
@@ -84,7 +84,7 @@ abbrev pub SessionGoesOn : RunningSession → RunningSession → Type 0
 SessionGoesOn old s =
     GoesOn old.seat s.seat × PutsNothing old.seat s.seat × NoneObstructs s.seat old.steps old.seat.taken s.seat.taken × (s.steps ≡ old.steps) × IsSession s
 
--- where the seat has taken in all that it has seen, a cell is free
+-- where the seat has taken in all that it has seen, it has seen fewer records than there are cells
 abbrev pub HasFreeCell : RunningSeat → Type 0
 HasFreeCell s = s.taken ≡ length s.pass.seen → length s.pass.seen < length s.pass.cells
 

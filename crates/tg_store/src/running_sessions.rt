@@ -161,7 +161,7 @@ impl Session {
     }
 
     // Rests on the next record that its seat has seen, or ends, by what that is to the session.
-    fn go_by(self, weighed: Weighed) -> Attempt
+    fn rest_or_end(self, weighed: Weighed) -> Attempt
         requires next { IsNext self weighed }
         requires left { self.seat.taken < length self.seat.pass.seen }
         ensures says { AttemptSays self result }
@@ -180,7 +180,7 @@ impl Session {
         ensures { AttemptSays self result }
     {
         match self.weigh(journal) {
-            Ok(weighed) => self.go_by(weighed),
+            Ok(weighed) => self.rest_or_end(weighed),
             Err(AllocError) => Attempt::Over(Committed::Again(self)),
         }
     }
@@ -219,7 +219,7 @@ impl Session {
         }
     }
 
-    // Puts its record. Whether a cell is free is looked at before any room is asked for.
+    // Puts its record. Whether a cell is free is looked at before room for the record is asked for.
     fn put(self, journal: &Journal<Record>) -> Attempt
         requires cells { self.seat.pass.cells ≡ journal.now }
         requires all { self.seat.taken ≡ length self.seat.pass.seen }

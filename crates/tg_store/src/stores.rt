@@ -129,8 +129,9 @@ impl Store {
 
     /// Takes in the records that are left, one at a time, and puts the session after them.
     ///
-    /// `Again` means that memory was refused and nothing put: the session goes on. Where every cell is
-    /// taken the answer is `JournalFull`, before any room is asked for.
+    /// `Again` means that memory was refused and nothing put: the session goes on. Where all records are
+    /// taken in and every cell is taken, the answer is `JournalFull`, before room for the session's own
+    /// record is asked for.
     pub fn commit(&self, session: Session) -> Committed
         requires { IsOf self.now session.seat }
         ensures { CommitSays session result }
