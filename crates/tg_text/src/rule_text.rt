@@ -228,7 +228,7 @@ impl<S: RuleSink> Items for Counted<S> {
 }
 
 /// Gives a sink the rules of a text in turn, with their lines, and gives the sink back. No list of the
-/// rules is made.
+/// rules is made, which no contract says.
 ///
 /// `At` names the first faulty line. Its kind is one of those of `read_rule`, or `TooMany` where
 /// there are `MOST_RULES` rules already. `Memory` is answered where the sink was refused memory,
