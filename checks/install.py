@@ -17,6 +17,8 @@ from pathlib import Path
 
 TOP = Path(__file__).resolve().parent.parent
 GRAPH = TOP / "examples/file_service.graph"
+# A text whose vertices are no names: a shell that expanded them would run a command.
+NASTY_GRAPH = "vertex $(>ran)\nvertex `>ran`\nvertex a\nvertex B\nvertex $HOME\n"
 STANDS_FOR_PROGRAM = '#!/bin/sh\nprintf "%s\\n" "$@"\n'
 MANUAL = "share/man/man1/officer.1"
 BASH_COMPLETIONS = "share/bash-completion/completions/officer"
@@ -57,11 +59,31 @@ def tree(folder):
     return {str(path.relative_to(folder)): path.stat().st_mode & 0o777 for path in files}
 
 
-def offered(completions, words):
-    """What bash offers for the last of the words."""
-    script = 'source "$1"; shift; COMP_WORDS=(officer "$@"); COMP_CWORD=$#; _officer; printf "%s\\n" "${COMPREPLY[@]}"'
-    found = subprocess.run(["bash", "-c", script, "bash", completions, *words], capture_output=True, text=True)
+def offered(completions, words, surroundings={}, before=":"):
+    """What bash offers for the last of the words, after the command `before`. It is to wait for no input."""
+    script = 'source "$1"; shift; COMP_WORDS=(officer "$@"); COMP_CWORD=$#; ' + before + '; _officer; printf "%s\\n" "${COMPREPLY[@]}"'
+    command = ["bash", "-c", script, "bash", completions, *words]
+    found = subprocess.run(
+        command, capture_output=True, text=True, env={**os.environ, **surroundings}, cwd=completions.parent, input="vertex b\n"
+    )
     return found.stdout.split()
+
+
+def settings_cases(folder, scratch):
+    """What bash offers with odd names and settings."""
+    completions = folder / BASH_COMPLETIONS
+    for name in "nasty.graph", "k=v nasty.graph":
+        nasty = scratch / name
+        nasty.write_text(NASTY_GRAPH)
+        escaped = str(nasty).replace(" ", "\\ ")
+        yield f"nothing but names is offered for {name}", offered(completions, ["share", escaped, "r", ""]) == ["a"]
+    yield "nothing of a text is run", not list(scratch.rglob("ran"))
+    yield "no terminal is read", offered(completions, ["share", "-", "r", ""]) == []
+    yield "no pipe is read", offered(completions, ["share", "/dev/stdin", "r", ""]) == []
+    home = {"HOME": str(GRAPH.parent)}
+    yield "a graph below the home folder", offered(completions, ["share", f"~/{GRAPH.name}", "r", "p"], home) == ["payroll"]
+    for setting in "set -u", "IFS=:", "IFS=":
+        yield f"bash offers words after {setting}", offered(completions, ["sh"], before=setting) == ["share"]
 
 
 def answers(program, words):
@@ -85,16 +107,19 @@ def placed_cases(folder, built):
 def install_cases(scratch, built):
     """Each case with whether it holds."""
     place, stage = scratch / "a place", scratch / "a stage"
-    at_place = f"PREFIX={place}", f"OFFICER={built}"
+    at_place = f"PREFIX={place}", f"OFFICER={built}", "DESTDIR="
     missing = make("install", f"PREFIX={place}", f"OFFICER={scratch}/missing")
     yield "no program, nothing is put in place", missing.returncode and "make build" in missing.stdout and not place.exists()
     yield "make install", not make("install", *at_place).returncode
     yield from placed_cases(place, built)
+    yield from settings_cases(place, scratch)
     yield "make install once more", not make("install", *at_place).returncode and tree(place) == FILES
     (place / "bin/another").touch()
     yield "make uninstall", not make("uninstall", *at_place).returncode
     yield "what is not its own stays, and nothing else", list(tree(place)) == ["bin/another"]
     yield "make uninstall once more", not make("uninstall", *at_place).returncode
+    at_home = make("install", "PREFIX=~/.local", f"OFFICER={built}", "DESTDIR=")
+    yield "a PREFIX with a ~ is refused", at_home.returncode and "$HOME" in at_home.stdout and not (TOP / "~").exists()
     staged = *at_place, f"DESTDIR={stage}"
     yield "make install for a packager", not make("install", *staged).returncode
     yield "all is below the stage", tree(stage / place.relative_to("/")) == FILES and list(tree(place)) == ["bin/another"]

@@ -1,7 +1,10 @@
 # Completions of officer for bash: its commands, files, rights, and the vertices of the graph that stands on the line.
 
+# The names of the vertices of a graph text. What is no name is left out: compgen expands the words that it is given.
 _officer_vertices() {
-    awk '$1 == "vertex" { print $2 }' "$1" 2> /dev/null
+    local graph=${1/#\~\//$HOME/}
+    graph=${graph//\\/}
+    [[ -f $graph ]] && LC_ALL=C awk '$1 == "vertex" && $2 ~ /^[a-z_][a-z0-9_]*$/ { print $2 }' < "$graph" 2> /dev/null
 }
 
 _officer_files() {
@@ -14,14 +17,14 @@ _officer_words() {
 }
 
 _officer() {
-    local word=${COMP_WORDS[COMP_CWORD]} command=${COMP_WORDS[1]} graph=${COMP_WORDS[2]}
+    local IFS=$' \t\n' word=${COMP_WORDS[COMP_CWORD]-} command=${COMP_WORDS[1]-} graph=${COMP_WORDS[2]-}
     COMPREPLY=()
     case $COMP_CWORD:$command in
         1:*) _officer_words 'check apply islands share derive table run race' "$word" ;;
         2:check | 2:islands | 2:share | 2:derive | 2:table) _officer_files "$word" ;;
-        2:apply | 2:run | 2:race | 3:apply | 3:run | 3:race) _officer_files "$word" ;;
+        [23]:apply | [23]:run | [23]:race) _officer_files "$word" ;;
         3:share | 3:derive | 3:table) _officer_words 't g r w e a d' "$word" ;;
-        4:share | 4:derive | 5:share | 5:derive) _officer_words "$(_officer_vertices "$graph")" "$word" ;;
+        [45]:share | [45]:derive) _officer_words "$(_officer_vertices "$graph")" "$word" ;;
         4:table) _officer_words '--workers' "$word" ;;
         5:table) _officer_words '1 2 3 4 5 6 7 8 9 10 11 12 13 14 15 16' "$word" ;;
     esac
