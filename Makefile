@@ -8,7 +8,8 @@
 #                 gate or rt test has built the tests
 # make man        the manual page
 # make install    puts the program, its manual page, and completions for bash and zsh below PREFIX, as in
-#                 make install PREFIX=$HOME/.local; where none is given it is /usr/local. DESTDIR stands before it for packagers
+#                 make install PREFIX=$HOME/.local; where none is given it is /usr/local. DESTDIR stands
+#                 before it for packagers
 # make uninstall  takes these four files away again
 # make bench      time and peak memory of each command on heavy inputs, of 1,024 and of 4,096 vertices
 # make races      races of 16 seats, each report compared with a small model's
@@ -126,7 +127,7 @@ man:
 # It proves nothing, so that root may call it where the toolchain is another's.
 install:
 	@test -x "$(OFFICER)" || { echo "There is no $(OFFICER) yet: make build proves and builds it."; exit 1; }
-	@case '$(PREFIX)' in "~"*) echo 'PREFIX begins with ~, which the shell has left as it is: write $$HOME.'; exit 1;; esac
+	@case "$(PREFIX)" in "~"*) echo 'PREFIX begins with ~, which the shell has left as it is: write $$HOME.'; exit 1;; esac
 	@install -D -m 755 "$(OFFICER)" "$(PROGRAM)"
 	@install -D -m 644 docs/officer.1 "$(MANUAL)"
 	@install -D -m 644 completions/officer.bash "$(BASH_COMPLETIONS)"

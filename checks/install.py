@@ -18,7 +18,7 @@ from pathlib import Path
 TOP = Path(__file__).resolve().parent.parent
 GRAPH = TOP / "examples/file_service.graph"
 # A text whose vertices are no names: a shell that expanded them would run a command.
-NASTY_GRAPH = "vertex $(>ran)\nvertex `>ran`\nvertex a\nvertex B\nvertex $HOME\n"
+NASTY_GRAPH = "vertex $(>ran)\nvertex `>ran`\nvertex a\nvertex B\nvertex $HOME\nvertex b\r\n"
 STANDS_FOR_PROGRAM = '#!/bin/sh\nprintf "%s\\n" "$@"\n'
 MANUAL = "share/man/man1/officer.1"
 BASH_COMPLETIONS = "share/bash-completion/completions/officer"
@@ -59,31 +59,30 @@ def tree(folder):
     return {str(path.relative_to(folder)): path.stat().st_mode & 0o777 for path in files}
 
 
-def offered(completions, words, surroundings={}, before=":"):
-    """What bash offers for the last of the words, after the command `before`. It is to wait for no input."""
-    script = 'source "$1"; shift; COMP_WORDS=(officer "$@"); COMP_CWORD=$#; ' + before + '; _officer; printf "%s\\n" "${COMPREPLY[@]}"'
-    command = ["bash", "-c", script, "bash", completions, *words]
-    found = subprocess.run(
-        command, capture_output=True, text=True, env={**os.environ, **surroundings}, cwd=completions.parent, input="vertex b\n"
-    )
-    return found.stdout.split()
+def offered(completions, words, home=os.environ.get("HOME", ""), setting=":"):
+    """What bash offers for the last of the words, with a setting. What it reads of its input counts too."""
+    script = 'source "$1"; shift; COMP_WORDS=(officer "$@"); COMP_CWORD=$#;' + setting
+    command = ["bash", "-c", script + '; _officer; printf "%s\\n" "${COMPREPLY[@]}"', "bash", completions, *words]
+    surroundings = {"env": {**os.environ, "HOME": home}, "cwd": completions.parent, "input": "vertex read\n"}
+    return subprocess.run(command, capture_output=True, text=True, **surroundings).stdout.split()
 
 
 def settings_cases(folder, scratch):
-    """What bash offers with odd names and settings."""
+    """What bash offers with odd texts, names and settings."""
     completions = folder / BASH_COMPLETIONS
     for name in "nasty.graph", "k=v nasty.graph":
-        nasty = scratch / name
+        nasty = completions.parent / name
         nasty.write_text(NASTY_GRAPH)
-        escaped = str(nasty).replace(" ", "\\ ")
-        yield f"nothing but names is offered for {name}", offered(completions, ["share", escaped, "r", ""]) == ["a"]
+        words = ["share", name.replace(" ", "\\ "), "r", ""]
+        yield f"nothing but names is offered for {name}", offered(completions, words) == ["a", "b"]
+        nasty.unlink()
     yield "nothing of a text is run", not list(scratch.rglob("ran"))
-    yield "no terminal is read", offered(completions, ["share", "-", "r", ""]) == []
-    yield "no pipe is read", offered(completions, ["share", "/dev/stdin", "r", ""]) == []
-    home = {"HOME": str(GRAPH.parent)}
-    yield "a graph below the home folder", offered(completions, ["share", f"~/{GRAPH.name}", "r", "p"], home) == ["payroll"]
+    for name in "-", "/dev/stdin":
+        yield f"nothing is read for {name}", offered(completions, ["share", name, "r", ""]) == []
+    words = ["share", f"~/{GRAPH.name}", "r", "p"]
+    yield "a graph below the home folder", offered(completions, words, home=str(GRAPH.parent)) == ["payroll"]
     for setting in "set -u", "IFS=:", "IFS=":
-        yield f"bash offers words after {setting}", offered(completions, ["sh"], before=setting) == ["share"]
+        yield f"bash offers words after {setting}", offered(completions, ["sh"], setting=setting) == ["share"]
 
 
 def answers(program, words):
@@ -109,7 +108,8 @@ def install_cases(scratch, built):
     place, stage = scratch / "a place", scratch / "a stage"
     at_place = f"PREFIX={place}", f"OFFICER={built}", "DESTDIR="
     missing = make("install", f"PREFIX={place}", f"OFFICER={scratch}/missing")
-    yield "no program, nothing is put in place", missing.returncode and "make build" in missing.stdout and not place.exists()
+    hint = "make build" in missing.stdout
+    yield "no program, nothing is put in place", missing.returncode and hint and not place.exists()
     yield "make install", not make("install", *at_place).returncode
     yield from placed_cases(place, built)
     yield from settings_cases(place, scratch)
@@ -131,7 +131,7 @@ def main():
     program = parser.parse_args().program
     with tempfile.TemporaryDirectory() as folder:
         scratch = Path(folder)
-        stand_in = scratch / "stand_in"
+        stand_in = scratch / "a stand in"
         stand_in.write_text(STANDS_FOR_PROGRAM)
         stand_in.chmod(0o755)
         cases = list(install_cases(scratch, os.path.abspath(program) if program else stand_in))

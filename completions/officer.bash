@@ -2,9 +2,10 @@
 
 # The names of the vertices of a graph text. What is no name is left out: compgen expands the words that it is given.
 _officer_vertices() {
-    local graph=${1/#\~\//$HOME/}
-    graph=${graph//\\/}
-    [[ -f $graph ]] && LC_ALL=C awk '$1 == "vertex" && $2 ~ /^[a-z_][a-z0-9_]*$/ { print $2 }' < "$graph" 2> /dev/null
+    local graph=${1//\\/}
+    graph=${graph/#\~\//"$HOME"/}
+    [[ -f $graph && -r $graph ]] || return
+    LC_ALL=C awk '{ gsub(/\r/, " ") } $1 == "vertex" && $2 ~ /^[a-z_][a-z0-9_]*$/ { print $2 }' < "$graph"
 }
 
 _officer_files() {
