@@ -4,7 +4,7 @@ use Rattle.std.specs.Prelude.{Contains, IsTrue}
 use Rattle.std.specs.List.{AllByRecursion}
 use Rattle.std.proofs.lemmas.Bool.{false≢true, and_parts}
 use Rattle.tg_text.specs.declared.faults.TextKind.{TextKind}
-use Rattle.tg_text.specs.declared.faults.TextKind.TheVariants.{LineTooLong, BadWord, WordCount, BadNumber, BadName, BadRights, DuplicateVertex, TooManyVertices, UnknownVertex, DuplicateEdge, TooMany, NoHeader}
+use Rattle.tg_text.specs.declared.faults.TextKind.TheVariants.{LineTooLong, BadWord, WordCount, BadNumber, BadName, BadRights, DuplicateVertex, TooManyVertices, UnknownVertex, UnknownGroup, DuplicateEdge, TooMany, NoHeader}
 use Rattle.tg_text.specs.declared.rule_text.RuleLine.{RuleLine}
 use Rattle.tg_text.specs.declared.script_text.ScriptLine.{ScriptLine}
 use Rattle.tg_text.specs.declared.script_text.Header.{Header}
@@ -45,6 +45,7 @@ of_graph made line BadRights h = (5, omega arith, refl)
 of_graph made line DuplicateVertex h = (6, omega arith, refl)
 of_graph made line TooManyVertices h = (7, omega arith, refl)
 of_graph made line UnknownVertex h = (8, omega arith, refl)
+of_graph made line UnknownGroup h = absurd (never (is_skipped (words_of line)) false refl h)
 of_graph made line DuplicateEdge h = (9, omega arith, refl)
 of_graph made line TooMany h = absurd (never (is_skipped (words_of line)) false refl h)
 of_graph made line NoHeader h = absurd (never (is_skipped (words_of line)) false refl h)
@@ -62,6 +63,7 @@ of_one_rule line BadRights h = (4, omega arith, refl)
 of_one_rule line DuplicateVertex h = absurd (false≢true h)
 of_one_rule line TooManyVertices h = absurd (false≢true h)
 of_one_rule line UnknownVertex h = absurd (false≢true h)
+of_one_rule line UnknownGroup h = absurd (false≢true h)
 of_one_rule line DuplicateEdge h = absurd (false≢true h)
 of_one_rule line TooMany h = absurd (false≢true h)
 of_one_rule line NoHeader h = absurd (false≢true h)
@@ -79,6 +81,7 @@ of_rules rules line BadRights h = (4, omega arith, refl)
 of_rules rules line DuplicateVertex h = absurd (never (is_skipped (words_of line)) false refl h)
 of_rules rules line TooManyVertices h = absurd (never (is_skipped (words_of line)) false refl h)
 of_rules rules line UnknownVertex h = absurd (never (is_skipped (words_of line)) false refl h)
+of_rules rules line UnknownGroup h = absurd (never (is_skipped (words_of line)) false refl h)
 of_rules rules line DuplicateEdge h = absurd (never (is_skipped (words_of line)) false refl h)
 of_rules rules line TooMany h = (5, omega arith, refl)
 of_rules rules line NoHeader h = absurd (never (is_skipped (words_of line)) false refl h)
@@ -96,6 +99,7 @@ of_script made line BadRights h = (5, omega arith, refl)
 of_script made line DuplicateVertex h = absurd (never (is_skipped (words_of line)) false refl h)
 of_script made line TooManyVertices h = absurd (never (is_skipped (words_of line)) false refl h)
 of_script made line UnknownVertex h = absurd (never (is_skipped (words_of line)) false refl h)
+of_script made line UnknownGroup h = absurd (never (is_skipped (words_of line)) false refl h)
 of_script made line DuplicateEdge h = absurd (never (is_skipped (words_of line)) false refl h)
 of_script made line TooMany h = (6, omega arith, refl)
 of_script made line NoHeader h = (7, omega arith, refl)

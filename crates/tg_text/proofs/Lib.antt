@@ -29,3 +29,11 @@ pub mod PlainEdges
 pub mod PlainRules
 pub mod RuleSinks
 pub mod Digits
+pub mod PolicyReads
+pub mod PolicyLaws
+pub mod PolicySound
+pub mod PolicyFaults
+pub mod PolicyKindLaws
+pub mod PolicyWords
+pub mod PolicyBack
+pub mod PolicyFits

@@ -16,3 +16,7 @@ most_rules = 131072
 -- how many events a script may have
 abbrev pub most_events : ℕ
 most_events = 65536
+
+-- how many lines a policy may have, those that are skipped not counted
+abbrev pub most_policy_lines : ℕ
+most_policy_lines = 65536

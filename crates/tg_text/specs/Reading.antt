@@ -51,6 +51,12 @@ abbrev pub Sees : {X A : Type 0} → (X → A) → Result X TextKind → Result 
 Sees view (Ok x) reading = reading ≡ Ok (view x)
 Sees view (Err kind) reading = reading ≡ Err kind
 
+-- An outcome of a part of a reader, its value seen by view: what the reading gives, unless there was no memory.
+abbrev pub Finds : {X A : Type 0} → (X → A) → Result X LineFault → Result A TextKind → Type 0
+Finds view (Ok x) reading = reading ≡ Ok (view x)
+Finds view (Err (line.Kind kind)) reading = reading ≡ Err kind
+Finds view (Err line.Memory) reading = Unit {0}
+
 -- An outcome of adding a line to what the earlier lines made, which has become made: what the line makes of it, unless there was no memory.
 abbrev pub Makes : {A : Type 0} → Result A TextKind → Result (Unit {0}) LineFault → A → Type 0
 Makes reading (Ok _) made = reading ≡ Ok made

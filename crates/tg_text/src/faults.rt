@@ -14,17 +14,21 @@ pub enum TextKind {
     BadNumber,
     /// A word for a name is no name.
     BadName,
-    /// A word for rights writes none; for an edge also the empty set, and in version 1 `a` and `d`.
+    /// A word for rights writes none; for an edge and in a policy also the empty set, and for an edge of
+    /// version 1 `a` and `d`.
     BadRights,
     /// The vertex was named by an earlier line.
     DuplicateVertex,
     /// `MOST_VERTICES` vertices are there already, in version 1 `MOST_VERTICES_OF_ONE`.
     TooManyVertices,
-    /// A source or target is named by no earlier line.
+    /// A source or target is named by no earlier line; in a policy, an operand is no vertex of the graph.
     UnknownVertex,
+    /// An operand is a group that no earlier line made.
+    UnknownGroup,
     /// An earlier line has the same source and target.
     DuplicateEdge,
-    /// `MOST_RULES` rules, or `MOST_EVENTS` events, are there already.
+    /// `MOST_RULES` rules, `MOST_EVENTS` events, or `MOST_POLICY_LINES` lines of a policy, are there
+    /// already.
     TooMany,
     /// The text ends before both header lines.
     NoHeader,

@@ -5,6 +5,9 @@ ghost use Rattle.tg_text.specs.RoundTrips.{GraphsAreReadAsWritten, ListsAreReadA
 ghost use Rattle.tg_text.specs.GraphGrammar.{GraphTextsAreThose, GraphFaultsAreFirst};
 ghost use Rattle.tg_text.specs.RuleGrammar.{RuleLinesAreThose, RulesTextsAreThose, RuleFaultsAreFirst};
 ghost use Rattle.tg_text.specs.ScriptGrammar.{ScriptTextsAreThose, ScriptFaultsAreFirst};
+ghost use Rattle.tg_text.specs.PolicyGrammar.{PolicyTextsAreThose, PolicyFaultsAreFirst};
+ghost use Rattle.tg_text.specs.PolicyKinds.{PolicyLineKinds, PolicyTextKinds, PolicyHasTheseKinds};
+ghost use Rattle.tg_text.specs.PolicyTrips.{PoliciesAreReadAsWritten, ReadPoliciesFit};
 ghost use Rattle.tg_text.specs.WordLaws.{LinesExactly, BlanksExactly, WordsExactly, NumberWordsExactly, NumbersAreDecimal};
 ghost use Rattle.tg_text.specs.FaultKinds.{GraphLineKinds, GraphTextKinds, OneRuleKinds, RuleLineKinds, RulesTextKinds, ScriptLineKinds, ScriptTextKinds, NoHeaderIsEndsEarly, GraphHasTheseKinds, OneRuleHasTheseKinds, RulesHaveTheseKinds, ScriptHasTheseKinds};
 
@@ -29,6 +32,13 @@ pub fn rule_grammar()
 pub fn script_grammar()
     ensures texts { ScriptTextsAreThose }
     ensures faults { ScriptFaultsAreFirst }
+{}
+
+/// A text has the lines of a policy over a graph exactly where the grammar gives it these, and a fault
+/// names the first line to which the grammar gives nothing.
+pub fn policy_grammar()
+    ensures texts { PolicyTextsAreThose }
+    ensures faults { PolicyFaultsAreFirst }
 {}
 
 /// A line of a graph is refused exactly with the least kind whose condition holds in it, and a text
@@ -56,6 +66,14 @@ pub fn script_faults_have_the_least_kind()
     ensures lines { ScriptLineKinds }
     ensures texts { ScriptTextKinds }
     ensures kinds { ScriptHasTheseKinds }
+{}
+
+/// A line of a policy is refused exactly with the least kind whose condition holds in it, and a text
+/// exactly with its first faulty line and the least kind of that line.
+pub fn policy_faults_have_the_least_kind()
+    ensures lines { PolicyLineKinds }
+    ensures texts { PolicyTextKinds }
+    ensures kinds { PolicyHasTheseKinds }
 {}
 
 /// `NoHeader` comes exactly where the text of a script ends before both header lines, on the line
@@ -108,4 +126,11 @@ pub fn lists_are_read_as_written()
 /// name order.
 pub fn graphs_are_read_as_written()
     ensures { GraphsAreReadAsWritten }
+{}
+
+/// Lines of a policy that were written are read as they were, on the lines 1, 2 and so on: up to
+/// `MOST_POLICY_LINES` of them, of at most `MOST_LINE_BYTES` bytes each. All that is read of a text is so.
+pub fn policies_are_read_as_written()
+    ensures written { PoliciesAreReadAsWritten }
+    ensures read { ReadPoliciesFit }
 {}

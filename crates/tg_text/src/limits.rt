@@ -14,3 +14,6 @@ pub const MOST_RULES: usize = 131072;
 
 /// How many events a script may have.
 pub const MOST_EVENTS: usize = 65536;
+
+/// How many lines a policy may have, those that are skipped not counted.
+pub const MOST_POLICY_LINES: usize = 65536;

@@ -1,8 +1,8 @@
 // Each test passes whichever one request for memory is refused, which `make refusals` tries. Where a
 // call was refused memory, its second try has it.
 use crate::{
-    TextFault, TextKind, append_number, append_reply, names_in_order, read_graph, read_rule,
-    read_rules, read_script, write_graph, write_reply, write_rule,
+    TextFault, TextKind, append_number, append_reply, names_in_order, read_graph, read_policy,
+    read_rule, read_rules, read_script, write_graph, write_policy, write_reply, write_rule,
 };
 use std::alloc::{AllocError, Global};
 use std::process::Abort;
@@ -14,6 +14,8 @@ const GRAPH: &[u8] = b"vertex a\nvertex b\nedge a b tg\n";
 const LATER_GRAPH: &[u8] = b"version 2\nvertex a\nvertex b\nedge a b ad\n";
 
 const RULE: &[u8] = b"create a c r";
+
+const POLICY: &[u8] = b"group x a b\nnever r @x a\n";
 
 const SCRIPT: &[u8] = b"seats 1\ncells 1\n1 begin\n1 commit\n";
 
@@ -90,6 +92,25 @@ fn refused_script(rt: HostRuntime) -> Result<(), Fail> {
         }
     };
     assert!(rt; script.seats == 1 && script.cells == 1 && script.lines.len() == 2);
+    Ok(())
+}
+
+#[test]
+fn refused_policy(rt: HostRuntime) -> Result<(), Fail> {
+    let graph = graph(&rt, rt.alloc(), GRAPH)?;
+    let lines = match read_policy(rt.alloc(), &graph, POLICY) {
+        Ok(lines) => lines,
+        Err(fault) => {
+            assert!(rt; fault == TextFault::Memory);
+            read_policy(rt.alloc(), &graph, POLICY)?
+        }
+    };
+    assert!(rt; lines.len() == 2);
+    let text = match write_policy(rt.alloc(), &lines) {
+        Ok(text) => text,
+        Err(AllocError) => write_policy(rt.alloc(), &lines)?,
+    };
+    assert!(rt; text.as_slice() == POLICY);
     Ok(())
 }
 

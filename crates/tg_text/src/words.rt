@@ -4,6 +4,7 @@ ghost use Rattle.tg_graph.specs.Sets.{IsNamed};
 ghost use Rattle.tg_text.specs.Lines.{words_of};
 ghost use Rattle.tg_text.specs.Words.{no_words, one_word, three_words, four_words, name_at, rights_at, right_at, number_up_to, number_of, with_digits, header_number};
 ghost use Rattle.tg_text.specs.GraphText.{edge_rights_at};
+ghost use Rattle.tg_text.specs.PolicyText.{some_rights_at, word_and_some, word_and_two};
 ghost use Rattle.tg_text.specs.Reading.{Sees};
 
 use crate::faults::TextKind;
@@ -59,6 +60,25 @@ pub(crate) fn four_words(bytes: &[u8]) -> Result<(&[u8], &[u8], &[u8], &[u8]), T
     Ok((first, second, third, fourth))
 }
 
+// A word, and what stands behind it, in which there is a word at least.
+pub(crate) fn word_and_some(bytes: &[u8]) -> Result<(&[u8], &[u8]), TextKind>
+    ensures { Sees (λ w. (w.0.now, words_of w.1.now)) result (word_and_some (words_of bytes.now)) }
+{
+    let (first, rest) = first_word(bytes)?;
+    first_word(rest)?;
+    Ok((first, rest))
+}
+
+// A word, and what stands behind it, in which there are two words.
+pub(crate) fn word_and_two(bytes: &[u8]) -> Result<(&[u8], &[u8]), TextKind>
+    ensures { Sees (λ w. (w.0.now, words_of w.1.now)) result (word_and_two (words_of bytes.now)) }
+{
+    let (first, rest) = first_word(bytes)?;
+    let (_, last) = first_word(rest)?;
+    one_word(last)?;
+    Ok((first, rest))
+}
+
 pub(crate) fn name_at(word: &[u8]) -> Result<Name, TextKind>
     ensures { result ≡ name_at word.now }
 {
@@ -78,6 +98,17 @@ pub(crate) fn rights_at(word: &[u8]) -> Result<Rights, TextKind>
         Some(rights) => Ok(rights),
         None => Err(TextKind::BadRights),
     }
+}
+
+// A set of rights that is not empty.
+pub(crate) fn some_rights_at(word: &[u8]) -> Result<Rights, TextKind>
+    ensures { result ≡ some_rights_at word.now }
+{
+    let rights = rights_at(word)?;
+    if rights.is_empty() {
+        return Err(TextKind::BadRights);
+    }
+    Ok(rights)
 }
 
 #[tactic(auto, unfolding(crate::specs::GraphText::edge_rights_at))]
