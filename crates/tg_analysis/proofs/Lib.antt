@@ -35,6 +35,12 @@ pub mod JoinedHoldings
 pub mod Gathered
 pub mod ByTarget
 pub mod Reached
+pub mod NumberKeys
+pub mod CaseOrder
+pub mod HeldEntries
+pub mod MemberLists
+pub mod Claims
+pub mod LookedIslands
 pub mod Blocked
 pub mod Spreads
 pub mod LookedUp

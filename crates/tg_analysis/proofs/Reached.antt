@@ -29,7 +29,7 @@ use Rattle.tg_analysis.proofs.Gathered.{is_there, edge-exact}
 use Rattle.tg_analysis.proofs.ByTarget.{some-pair, end-there, end-leads, is_read, target-within, scan-exact}
 
 -- the empty set has no member
-nothing-has : (right : Right) → IsTrue (member nothing right) → ⊥
+pub nothing-has : (right : Right) → IsTrue (member nothing right) → ⊥
 nothing-has right m = true≢false (sym m ∙ member-nothing right)
 
 -- empty sets, as many as there are

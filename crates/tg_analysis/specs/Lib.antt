@@ -17,3 +17,4 @@ pub mod ByTarget
 pub mod Holders
 pub mod Positions
 pub mod Reaching
+pub mod Cases

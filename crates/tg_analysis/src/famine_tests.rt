@@ -1,6 +1,8 @@
 // What takes no memory. Each test passes when every request for memory from some one on is refused,
 // which `make refusals` tries: it ends with an error where it can't be set up, and else everything
 // is answered.
+use crate::case_tests::{Kind, found};
+use crate::cases::Case;
 use crate::gates::{Gate, OpenGate};
 use crate::memory_tests::three;
 use crate::questions::AskFault;
@@ -19,6 +21,28 @@ fn islands_read(rt: HostRuntime) -> Result<(), Fail> {
     let graph = three(rt.alloc())?;
     let islands = islands_of(rt.alloc(), &graph)?;
     assert_numbers(&rt, &islands, 2, &[0, 0, 1]);
+    Ok(())
+}
+
+// A case is found, or there is no memory; none is missed.
+#[test]
+fn cases_read(rt: HostRuntime) -> Result<(), Fail> {
+    let graph = three(rt.alloc())?;
+    let (x, y, z) = (Name::helper(0), Name::helper(1), Name::helper(2));
+    let names = [x, y, z];
+    let kind = Kind::Beyond;
+    let first = found(
+        &rt,
+        rt.alloc(),
+        &graph,
+        &names,
+        kind,
+        Rights::READ,
+        &names,
+        &[x],
+    )?;
+    let right = Right::R;
+    assert!(rt; first == Some(Case { right, x: y, y: z }));
     Ok(())
 }
 

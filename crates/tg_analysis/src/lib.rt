@@ -1,9 +1,14 @@
-//! What can be shared in a protection graph: islands, answers and derivations.
+//! What can be shared in a protection graph: islands, answers, derivations, and the first case that breaks a
+//! claim.
 #![tactic(auto)]
 
 mod answers;
 mod blocks;
 mod by_target;
+mod case_index;
+#[cfg(test)]
+mod case_tests;
+mod cases;
 #[cfg(test)]
 mod chain_tests;
 mod chains;
@@ -15,6 +20,8 @@ mod famine_tests;
 mod flooding;
 mod gates;
 mod gathering;
+mod heads;
+mod held;
 mod holders;
 mod holdings;
 #[cfg(test)]
@@ -28,6 +35,7 @@ mod links;
 mod listed_chains;
 #[cfg(test)]
 mod made_graphs;
+mod members;
 #[cfg(test)]
 mod memory_tests;
 mod met;
@@ -54,6 +62,8 @@ mod test_answers;
 mod test_graphs;
 
 pub use answers::{can_share, can_share_all};
+pub use case_index::CaseIndex;
+pub use cases::Case;
 pub use derivations::{derivation, derivation_all};
 pub use gates::{Gate, OpenGate};
 pub use joining::islands;

@@ -3,6 +3,8 @@
 ghost use Rattle.tg_graph.specs.Sets.{IsNamed};
 ghost use Rattle.tg_analysis.specs.ByTarget.{IsIndexOf};
 
+use crate::case_tests::{Kind, found};
+use crate::cases::Case;
 use crate::gates::OpenGate;
 use crate::numbering::Islands;
 use crate::questions::AskFault;
@@ -15,6 +17,7 @@ use crate::test_answers::{
 };
 use bitflags::Flags;
 use std::alloc::{AllocError, Global};
+use std::process::Abort;
 use std::test::Fail;
 use std::thread::Threads;
 use tg_graph::{EdgeFault, Graph, Name, Right, Rights, VertexFault};
@@ -354,5 +357,48 @@ fn refused_table_of_a_hub(rt: HostRuntime) -> Result<(), Fail> {
     let graph = hub(rt.alloc())?;
     let table = table_again(&rt, rt.alloc(), &graph)?;
     assert_table(&rt, &table, &[HUB_ROW; 11]);
+    Ok(())
+}
+
+// The first case of r for names, or for those beyond the other ones.
+fn found_again(
+    rt: &impl Abort,
+    alloc: Global,
+    graph: &Graph,
+    kind: Kind,
+    names: &[Name],
+    other: &[Name],
+) -> Result<Option<Case>, AllocError> {
+    match found(rt, alloc, graph, names, kind, Rights::READ, names, other) {
+        Err(AllocError) => found(rt, alloc, graph, names, kind, Rights::READ, names, other),
+        outcome => outcome,
+    }
+}
+
+// _0 and _1 alone can come to have r over _2, and nobody over another of the three.
+fn assert_cases(rt: &impl Abort, alloc: Global, graph: &Graph) {
+    let (x, y, z) = (Name::helper(0), Name::helper(1), Name::helper(2));
+    let right = Right::R;
+    let names = [x, y, z];
+    let shared = found_again(rt, alloc, graph, Kind::Shared, &names, &names);
+    assert!(rt; shared == Ok(Some(Case { right, x, y: z })));
+    let unshared = found_again(rt, alloc, graph, Kind::Unshared, &names, &names);
+    assert!(rt; unshared == Ok(Some(Case { right, x, y: x })));
+    let beyond = found_again(rt, alloc, graph, Kind::Beyond, &names, &[x]);
+    assert!(rt; beyond == Ok(Some(Case { right, x: y, y: z })));
+}
+
+#[test]
+fn refused_cases(rt: HostRuntime) -> Result<(), Fail> {
+    let graph = three(rt.alloc())?;
+    assert_cases(&rt, rt.alloc(), &graph);
+    Ok(())
+}
+
+// At the hub _2 can come to have it as well, which is none of the first cases.
+#[test]
+fn refused_cases_at_a_hub(rt: HostRuntime) -> Result<(), Fail> {
+    let graph = hub(rt.alloc())?;
+    assert_cases(&rt, rt.alloc(), &graph);
     Ok(())
 }

@@ -119,7 +119,8 @@ fn over_its_own_island(rt: HostRuntime) {
     assert_reach(&rt, rt.alloc(), &g, "b", "w tgr -");
 }
 
-// The chain a b c d e, linked both ways round, whose last vertex holds all rights over f.
+// The chain a b c d e, linked both ways round, whose last vertex holds over f first all rights, then those
+// that do not link.
 #[test]
 fn along_a_chain(rt: HostRuntime) {
     let edges = "b a g, b c t, d c t, d e g, e f tgrwead";

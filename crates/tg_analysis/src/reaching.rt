@@ -1,6 +1,6 @@
 //! Who can come to have rights over one vertex, and which rights one vertex can come to have over each.
 //!
-//! The islands are found once, and then each row is looked at once.
+//! The islands are found first. Then `who` looks at each row once, and `reach` at those of x's island.
 ghost use Rattle.std.specs.Prelude.{◌≡◌, ◌↔◌, ◌<◌, ◌+◌, ℕ, true, IsTrue, IfOk, IfErr, IfSome, OnOk, None, Some, length, replicate, slice_get};
 ghost use Rattle.std.specs.Map.{keys_of};
 ghost use Rattle.tg_graph.specs.Sets.{IsNamed, nothing};

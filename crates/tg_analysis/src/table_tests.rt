@@ -59,7 +59,7 @@ fn a_table_of_most_vertices(rt: HostRuntime) -> Result<(), Fail> {
     Ok(())
 }
 
-// How often a block looks whether the others have entered: some seconds.
+// How often a block looks whether the others have entered: minutes, where the machine is busy.
 const MOST_LOOKS: u64 = 100_000_000;
 
 // Holds each block until so many have entered. Once one has waited too long, none waits any more.

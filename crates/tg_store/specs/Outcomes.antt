@@ -47,7 +47,7 @@ abbrev pub BeginFaultSays : BeginFault → RunningSeat → Type 0
 BeginFaultSays (begin.Foreign place) new = FindsForeign place new
 BeginFaultSays begin.Memory new = ⊤
 
--- a session without steps, on all that its seat has seen, which knows of no record at the place behind; or the seat again
+-- a session without steps on all that its seat has seen, and the seat knows of no record at the next place; or the seat again
 abbrev pub BeginSays : RunningSeat → Begun → Type 0
 BeginSays old (begun.Session s) = GoesOn old s.seat × PutsNothing old s.seat × (s.steps ≡ []) × (s.seat.taken ≡ length s.seat.pass.seen) × IsSession s × KnowsNoMore s.seat
 BeginSays old (begun.Refused new fault) = GoesOn old new × PutsNothing old new × BeginFaultSays fault new × IsSeat new

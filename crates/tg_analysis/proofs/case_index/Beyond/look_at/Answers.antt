@@ -1,0 +1,26 @@
+use Rattle.std.proofs.Common.{length, get_or, ◌∙◌, arith}
+use Rattle.std.proofs.lemmas.Option.{slice_get_within, slice_get-get_or}
+use Rattle.tg_analysis.specs.declared.held.Held.{Held}
+use Rattle.tg_analysis.proofs.Claims.{no_entry}
+use Rattle.tg_analysis.proofs.LookedIslands.{all-looked-more}
+use Rattle.tg_analysis.proofs.case_index.Beyond.look_at.Goals as goal
+
+pub loop-entry-preserved : goal.loop-entry-preserved
+loop-entry-preserved c =
+    let entries = c.args.entries.now in
+    let index = c.loop-entry.entry-index in
+    let entry : Held = get_or entries index no_entry in
+    let here = slice_get-get_or entries index no_entry c.loop-entry-test.true in
+    let before = c.loop-entry.invariant in
+    let looks = c.in_ok-look.ensures in
+    record {
+      looked = all-looked-more entries index entry c.loop-entry.self.looked c.look.new.self.looked here before.looked looks.kept looks.looked;
+      kept = λ n h. looks.kept n (before.kept n h);
+      allowed = looks.allowed ∙ before.allowed;
+      has = λ numbers len members has. looks.has numbers len members (before.has numbers len members has);
+    }
+
+pub returns-clause-looked : goal.returns-clause-looked
+returns-clause-looked c = λ place entry h.
+    let end = c.loop-entry-test.false in
+    c.loop-entry.invariant.looked place entry (let low = slice_get_within c.args.entries.now place entry h in omega arith) h

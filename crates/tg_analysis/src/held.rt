@@ -1,0 +1,181 @@
+//! What islands hold over one vertex, edge by edge.
+ghost use Rattle.std.specs.Prelude.{◌≡◌, ◌↔◌, ◌<◌, ◌+◌, ℕ, Some, IfOk, OnOk, length, slice_get};
+ghost use Rattle.tg_graph.specs.declared.right_sets.Right.{Right};
+ghost use Rattle.tg_analysis.specs.Cases.{IsSoonest, IsClaimOf, IsClaim, rights_under, JoinsUpTo, IsFirstWithout, IsClaimWithout, IsLackOf, IsSaid, AreHeads};
+
+use crate::cases::{Claimed, first_in_both, sooner};
+use crate::heads::Heads;
+use crate::holders::named;
+use bitflags::Flags;
+use std::alloc::{AllocError, Global};
+use std::collections::BTreeMap;
+use std::marker::Model;
+use tg_graph::{Right, Rights};
+
+/// Rights that an island holds by one edge.
+#[derive(Clone, Copy)]
+pub(crate) struct Held {
+    /// The number of the island.
+    pub number: usize,
+    /// The rights.
+    pub label: Rights,
+}
+
+// The first right of the set that an entry says, with the place that stands for its island.
+fn claim_of(entry: Held, places: &BTreeMap<usize, usize>, rights: Rights) -> Option<Claimed>
+    ensures { IsSoonest (IsClaimOf entry places.now rights) result }
+{
+    let right = first_in_both(entry.label, rights)?;
+    let place = places.get(&entry.number).copied()?;
+    Some(Claimed { right, place })
+}
+
+/// The soonest right of the set that an entry says, with the place that stands for its island.
+pub(crate) fn soonest(
+    entries: &[Held],
+    places: &BTreeMap<usize, usize>,
+    rights: Rights,
+) -> Option<Claimed>
+    ensures { IsSoonest (IsClaim entries.now places.now rights (length entries.now)) result }
+{
+    let mut best = None;
+    for index in 0..entries.len() {
+        best = sooner(best, claim_of(entries[index], places, rights));
+    }
+    best
+}
+
+// The rights under a number.
+fn rights_under(held: &BTreeMap<usize, Rights>, number: usize) -> Rights
+    ensures { result ≡ rights_under held.now number }
+{
+    match held.get(&number) {
+        Some(rights) => *rights,
+        None => Rights::empty(),
+    }
+}
+
+// Adds what the entry at a place says to the rights under its number.
+fn add_entry(
+    held: &mut BTreeMap<usize, Rights>,
+    entries: &[Held],
+    index: usize,
+) -> Result<(), AllocError>
+    requires within { index < length entries.now }
+    requires so_far { JoinsUpTo entries.now index held.old }
+    ensures { OnOk result (JoinsUpTo entries.now (index + 1) held.new) }
+{
+    let entry = entries[index];
+    let rights = rights_under(held, entry.number).union(named(entry.label));
+    held.insert(entry.number, rights)?;
+    Ok(())
+}
+
+/// The rights that entries say, by the numbers of their islands.
+pub(crate) fn joined(alloc: Global, entries: &[Held]) -> Result<BTreeMap<usize, Rights>, AllocError>
+    ensures { IfOk result (λ held. JoinsUpTo entries.now (length entries.now) held) }
+{
+    let mut held = BTreeMap::new(alloc);
+    for index in 0..entries.len() {
+        add_entry(&mut held, entries, index)?;
+    }
+    Ok(held)
+}
+
+/// What islands hold over one vertex, an entry for each island.
+///
+/// A contract sees it as the list of the entries.
+#[derive(Drop)]
+pub(crate) struct HeldOver {
+    held: Vec<Held>,
+}
+
+impl Model for HeldOver {
+    ghost use Rattle.std.specs.Prelude.{List};
+    ghost use Rattle.tg_analysis.specs.declared.held.Held as one;
+
+    ghost Value = { List one.Held };
+
+    ghost view = { λ h. h.held.items };
+}
+
+impl HeldOver {
+    /// What entries say, of which many may be of one island.
+    pub(crate) fn of(alloc: Global, entries: &[Held]) -> Result<HeldOver, AllocError>
+        ensures { IfOk result (λ held. (right : Right) (number : ℕ)
+            → IsSaid held right number ↔ IsSaid entries.now right number) }
+    {
+        let sums = joined(alloc, entries)?;
+        let mut held = Vec::with_capacity(alloc, sums.len())?;
+        for (number, label) in &sums {
+            held.push(Held {
+                number: *number,
+                label: *label,
+            })?;
+        }
+        Ok(HeldOver { held })
+    }
+
+    /// The entries.
+    pub(crate) fn as_slice(&self) -> &[Held]
+        ensures { result.now ≡ self.now }
+    {
+        self.held.as_slice()
+    }
+}
+
+// The first of the places at which stands the number of an island that lacks the right.
+fn place_without(
+    held: &BTreeMap<usize, Rights>,
+    numbers: &[usize],
+    places: &[usize],
+    right: Right,
+) -> Option<usize>
+    requires { (t place : ℕ) → slice_get places.now t ≡ Some place → place < length numbers.now }
+    ensures { IsFirstWithout held.now numbers.now places.now right result }
+{
+    for index in 0..places.len() {
+        let place = places[index];
+        if !rights_under(held, numbers[place]).has(right) {
+            return Some(place);
+        }
+    }
+    None
+}
+
+// The same, if the right is one of the set.
+fn claim_without(
+    held: &BTreeMap<usize, Rights>,
+    numbers: &[usize],
+    places: &[usize],
+    rights: Rights,
+    right: Right,
+) -> Option<Claimed>
+    requires { (t place : ℕ) → slice_get places.now t ≡ Some place → place < length numbers.now }
+    ensures { IsClaimWithout held.now numbers.now places.now rights right result }
+{
+    if !rights.has(right) {
+        return None;
+    }
+    let place = place_without(held, numbers, places, right)?;
+    Some(Claimed { right, place })
+}
+
+/// The soonest right of the set that an island lacks, with the first place at which its number stands.
+pub(crate) fn soonest_without(
+    held: &BTreeMap<usize, Rights>,
+    numbers: &[usize],
+    heads: &Heads,
+    rights: Rights,
+) -> Option<Claimed>
+    requires { AreHeads numbers.now (length numbers.now) heads.now.places heads.now.order.items }
+    ensures { IsSoonest (IsLackOf held.now numbers.now rights) result }
+{
+    for right in &Right::ALL {
+        let claim = claim_without(held, numbers, heads.order.as_slice(), rights, *right);
+        if claim.is_some() {
+            return claim;
+        }
+    }
+    None
+}
