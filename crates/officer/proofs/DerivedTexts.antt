@@ -22,10 +22,12 @@ use Rattle.tg_text.proofs.RuleBack.{length-more}
 use Rattle.tg_text.proofs.RulesBack.{rules-read, skipped-line}
 use Rattle.tg_text.proofs.SmallGraphs.{graph_is_small}
 use Rattle.tg_text.proofs.Steps.{bind_ok}
-use Rattle.tg_analysis.proofs.Parts.{derivations_of_all_are_short}
+use Rattle.tg_analysis.specs.Moves.{only}
+use Rattle.tg_analysis.proofs.Parts.{derivations_of_all_are_short, one_right_alone}
 use Rattle.officer.specs.Readings.{Question, from_text, graph_in, rights_in, name_in, vertex_in, question_in}
-use Rattle.officer.specs.Reports.{Played, played_first, played, derivation_report}
-use Rattle.officer.specs.ReportLaws.{rules_of, DerivationsGiveTheRights, ReadDerivationsGiveTheRights}
+use Rattle.officer.specs.Derived.{derivation_report}
+use Rattle.officer.specs.Reports.{Played, played_first, played}
+use Rattle.officer.specs.ReportLaws.{rules_of, DerivationsGiveTheRights, ReadDerivationsGiveTheRights, DerivationsBelowGiveTheRight}
 
 are_rules : (g : ProtectionGraph) (rules : List Rule) → AllAccepted g rules → AllByRecursion IsRule rules
 are_rules g [] a = tt
@@ -97,6 +99,10 @@ asked_small first rights x y q e =
     let v = bind_ok (vertex_in g.0 b.0) _ q u.2 in
     let whole : record { graph = g.0; rights = s.0; x = u.0; y = v.0 } ≡ q = cc in
     subst (λ (p : Question). length p.graph.vertices ≤ most_vertices) whole (graph_is_small first g.0 (from_read (codes "graph") (graph_text first) g.0 g.1))
+
+pub derivations_below_give : DerivationsBelowGiveTheRight
+derivations_below_give g right x y rules small derived =
+    derivations_give (record { graph = g; rights = only right; x = x; y = y }) rules small ((one_right_alone g right x y rules).1 derived)
 
 pub read_derivations_give : ReadDerivationsGiveTheRights
 read_derivations_give first rights x y q rules read derived = derivations_give q rules (asked_small first rights x y q read) derived

@@ -10,7 +10,15 @@ pub mod DerivedTexts
 pub mod DealingLemmas
 pub mod OneReport
 pub mod TableTests
+pub mod WhoTests
+pub mod ReachLetters
+pub mod WhoLaws
 pub mod IslandLines
 pub mod OnePlay
 pub mod RunLaws
 pub mod RulesPlayed
+pub mod GroupLaws
+pub mod VerdictLaws
+pub mod ToldLines
+pub mod FirstBreaks
+pub mod OneVerified

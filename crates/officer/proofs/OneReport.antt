@@ -1,16 +1,23 @@
 -- A command has one report for its texts.
-use Rattle.std.proofs.Common.{◌≡◌, ◌⊎◌, ℕ, Bool, true, false, cond, ◌||◌, List, [], ◌∷◌, ◌++◌, refl, sym, ◌∙◌, ap, inl, inr, filter, map}
+use Rattle.std.proofs.Common.{◌≡◌, ◌⊎◌, ℕ, Bool, true, false, cond, ◌||◌, List, [], ◌∷◌, ◌++◌, refl, sym, ◌∙◌, ap, inl, inr, filter, map, subst}
 use Rattle.std.specs.Prelude.{Result, Ok, Err}
 use Rattle.std.specs.List.{flat_map}
+use Rattle.tg_graph.specs.declared.right_sets.Rights.{Rights}
+use Rattle.tg_graph.specs.Sets.{member}
 use Rattle.tg_graph.specs.Graphs.{Name, ProtectionGraph, has_vertex}
+use Rattle.tg_graph.proofs.Sets.{same_set}
 use Rattle.tg_text.specs.Canonical.{in_name_order}
 use Rattle.tg_text.proofs.NameOrder.{among, among-in_order, same_name-refl}
-use Rattle.officer.specs.Calls.{Case, Check, Apply, Islands, Share, Derive, Table, Run}
-use Rattle.officer.specs.Readings.{ReportText, Question, TableQuestion, graph_in, question_in, table_in}
-use Rattle.officer.specs.Reports.{IsFor, Is, AreTableLines, digit_for, table_text, IsAnswer, IsDerived, TellsIslands, AreIslandLines, island_line, islands_text, check_report, apply_report, graph_part, rules_part}
+use Rattle.officer.specs.Calls.{Case, Check, Apply, Islands, Share, Derive, Table, Run, Who, Reach, Verify}
+use Rattle.officer.specs.Readings.{ReportText, Question, TableQuestion, WhoQuestion, ReachQuestion, PolicyOver, graph_in, question_in, table_in, who_in, reach_in, policy_lines_in, policy_in}
+use Rattle.officer.specs.Reports.{IsFor, Is, AreTableLines, digit_for, table_text, IsAnswer, IsDerived, TellsIslands, AreIslandLines, island_line, islands_text, AreWhoLines, TellsWho, name_line, who_text, AreReachLines, IsReached, TellsReach, reach_line, reach_text, check_report, apply_report, graph_part, rules_part}
 use Rattle.officer.specs.Runs.{playing_in, IsPlayed}
-use Rattle.officer.specs.ReportLaws.{FindsRules, ThereIsOneReport}
+use Rattle.officer.specs.Policies.{IsVerified}
+use Rattle.officer.specs.ReportLaws.{FindsRules, HasRules, ThereIsOneReport}
+use Rattle.tg_text.specs.Reading.{◌>>=◌}
+use Rattle.tg_text.proofs.Steps.{ok_is, bind_ok}
 use Rattle.officer.proofs.OnePlay.{played_one}
+use Rattle.officer.proofs.OneVerified.{verified_one, verified_same}
 
 -- ---- tests that agree
 pub same_truth : (b c : Bool) → (b ≡ true → c ≡ true) → (c ≡ true → b ≡ true) → b ≡ c
@@ -71,6 +78,37 @@ table_one q a b h k =
     let F : List ℕ → ReportText = λ bytes. record { bytes = bytes; status = 0 } in
     h.2 ∙ (ap F same ∙ sym k.2)
 
+-- ---- who can come to have rights, and which
+pub names_same : (p q : Name → Bool) (names : List Name) → ((v : Name) → among v names ≡ true → p v ≡ q v) → who_text p names ≡ who_text q names
+names_same p q [] h = refl
+names_same p q (v ∷ vs) h =
+    ap (λ b. name_line b v ++ who_text p vs) (h v (first_true _ _ (same_name-refl v)))
+    ∙ ap (λ (t : List ℕ). name_line (q v) v ++ t) (names_same p q vs (λ u k. h u (either_true _ _ k)))
+
+who_one : (q : WhoQuestion) (a b : ReportText) → AreWhoLines q a → AreWhoLines q b → a ≡ b
+who_one q a b h k =
+    let vs = in_name_order q.graph.vertices in
+    let one : (v : Name) → has_vertex q.graph v ≡ true → h.0 v ≡ k.0 v = λ v kv. same_truth (h.0 v) (k.0 v) (λ t. (k.1 v kv).1 ((h.1 v kv).0 t)) (λ t. (h.1 v kv).1 ((k.1 v kv).0 t)) in
+    let same : who_text h.0 vs ≡ who_text k.0 vs = names_same h.0 k.0 vs (λ v i. one v (sym (among-in_order v q.graph.vertices) ∙ i)) in
+    let F : List ℕ → ReportText = λ bytes. record { bytes = bytes; status = 0 } in
+    h.2 ∙ (ap F same ∙ sym k.2)
+
+pub sets_same : (p q : Name → Rights) (names : List Name) → ((v : Name) → among v names ≡ true → p v ≡ q v) → reach_text p names ≡ reach_text q names
+sets_same p q [] h = refl
+sets_same p q (v ∷ vs) h =
+    ap (λ s. reach_line s v ++ reach_text p vs) (h v (first_true _ _ (same_name-refl v)))
+    ∙ ap (λ (t : List ℕ). reach_line (q v) v ++ t) (sets_same p q vs (λ u k. h u (either_true _ _ k)))
+
+pub one_set : (g : ProtectionGraph) (x y : Name) (s t : Rights) → IsReached g x y s → IsReached g x y t → s ≡ t
+one_set g x y s t h k = same_set s t (λ right. same_truth (member s right) (member t right) (λ e. (k.exact right).1 ((h.exact right).0 e)) (λ e. (h.exact right).1 ((k.exact right).0 e))) h.named k.named
+
+reach_one : (q : ReachQuestion) (a b : ReportText) → AreReachLines q a → AreReachLines q b → a ≡ b
+reach_one q a b h k =
+    let vs = in_name_order q.graph.vertices in
+    let same : reach_text h.0 vs ≡ reach_text k.0 vs = sets_same h.0 k.0 vs (λ v i. let kv = sym (among-in_order v q.graph.vertices) ∙ i in one_set q.graph q.x v (h.0 v) (k.0 v) (h.1 v kv) (k.1 v kv)) in
+    let F : List ℕ → ReportText = λ bytes. record { bytes = bytes; status = 0 } in
+    h.2 ∙ (ap F same ∙ sym k.2)
+
 -- ---- answers
 answer_one : (q : Question) (a b : ReportText) → IsAnswer q a → IsAnswer q b → a ≡ b
 answer_one q a b (inl h) (inl k) = h.1 ∙ sym k.1
@@ -96,6 +134,22 @@ for_derived : (x : Result Question ReportText) (a b : ReportText) → IsFor IsDe
 for_derived (Ok q) a b i j = derived_one q a b i j
 for_derived (Err fault) a b i j = inl (i ∙ sym j)
 
+for_verified : (why : Bool) (x : Result PolicyOver ReportText) (first : List ℕ) (a b : ReportText) → ((p : PolicyOver) → x ≡ Ok p → graph_in first ≡ Ok p.graph) → IsFor (λ p. IsVerified why p.graph p.lines) x a → IsFor (λ p. IsVerified why p.graph p.lines) x b → (a ≡ b) ⊎ (HasRules (graph_in first) a × HasRules (graph_in first) b)
+for_verified why (Err fault) first a b of i j = inl (i ∙ sym j)
+for_verified why (Ok p) first a b of i j = by (verified_one why p.graph p.lines a b i j)
+  where
+    by : (a ≡ b) ⊎ (HasRules (Ok p.graph) a × HasRules (Ok p.graph) b) → (a ≡ b) ⊎ (HasRules (graph_in first) a × HasRules (graph_in first) b)
+    by (inl e) = inl e
+    by (inr h) = inr (subst (λ r. HasRules r a) (sym (of p refl)) h.0, subst (λ r. HasRules r b) (sym (of p refl)) h.1)
+
+-- the graph of a policy is that of the first text
+graph_of_policy : (first second : List ℕ) (p : PolicyOver) → policy_in first second ≡ Ok p → graph_in first ≡ Ok p.graph
+graph_of_policy first second p e =
+    let g = bind_ok (graph_in first) (λ g. policy_lines_in g second >>= λ lines. Ok (record { graph = g; lines = lines })) p e in
+    let lines = bind_ok (policy_lines_in g.0 second) (λ lines. Ok (record { graph = g.0; lines = lines })) p g.2 in
+    let same : record { graph = g.0; lines = lines.0 } ≡ p = (let both = lines.2 in cc) in
+    g.1 ∙ ap (λ (q : PolicyOver). Ok q.graph) same
+
 pub one_report : ThereIsOneReport
 one_report Case first second a b i j = inl (is_one (apply_report (graph_part first) (rules_part first)) a b i j)
 one_report Check first second a b i j = inl (is_one (check_report first) a b i j)
@@ -105,3 +159,7 @@ one_report (Share rights x y) first second a b i j = inl (for_one IsAnswer (ques
 one_report (Derive rights x y) first second a b i j = for_derived (question_in first rights x y) a b i j
 one_report (Table right workers) first second a b i j = inl (for_one AreTableLines (table_in first right workers) a b (λ q h k. table_one q a b h k) i j)
 one_report Run first second a b i j = inl (for_one (λ p. IsPlayed p.graph p.script) (playing_in first second) a b (λ p h k. played_one p.graph p.script a b h k) i j)
+one_report (Who rights y) first second a b i j = inl (for_one AreWhoLines (who_in first rights y) a b (λ q h k. who_one q a b h k) i j)
+one_report (Verify true) first second a b i j = for_verified true (policy_in first second) first a b (graph_of_policy first second) i j
+one_report (Verify false) first second a b i j = inl (for_one (λ p. IsVerified false p.graph p.lines) (policy_in first second) a b (λ p h k. verified_same p.graph p.lines a b h k) i j)
+one_report (Reach x) first second a b i j = inl (for_one AreReachLines (reach_in first x) a b (λ q h k. reach_one q a b h k) i j)

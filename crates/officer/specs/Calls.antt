@@ -1,5 +1,5 @@
 -- What the words of a command line ask for.
-use Rattle.std.specs.Prelude.{ℕ, List, [], ◌∷◌, length, nat_lt, bytes_eq, codes, if◌then◌else◌, Option, Some, None}
+use Rattle.std.specs.Prelude.{ℕ, Bool, true, false, ◌&&◌, List, [], ◌∷◌, length, nat_lt, bytes_eq, codes, if◌then◌else◌, Option, Some, None}
 use Rattle.std.specs.Option.{option_map}
 use Rattle.tg_text.specs.Words.{with_digits}
 use Rattle.officer.specs.declared.words.Command.{Command}
@@ -17,6 +17,9 @@ pub data CommandWords : Type 0 where
   Derive : List ℕ → List ℕ → List ℕ → CommandWords
   Table : List ℕ → ℕ → CommandWords
   Run : CommandWords
+  Who : List ℕ → List ℕ → CommandWords
+  Reach : List ℕ → CommandWords
+  Verify : Bool → CommandWords
 
 -- a call with its words
 pub data CallWords : Type 0 where
@@ -34,6 +37,9 @@ command_words (command.Share rights x y) = Share rights.now x.now y.now
 command_words (command.Derive rights x y) = Derive rights.now x.now y.now
 command_words (command.Table right workers) = Table right.now workers
 command_words command.Run = Run
+command_words (command.Who rights y) = Who rights.now y.now
+command_words (command.Reach x) = Reach x.now
+command_words (command.Verify why) = Verify why
 
 abbrev pub call_words : Call → CallWords
 call_words call.Input = Input
@@ -54,7 +60,7 @@ graph_command name = if bytes_eq name (codes "check") then Some Check else (if b
 
 -- the commands on a graph and a second text
 abbrev pub text_command : List ℕ → Option CommandWords
-text_command name = if bytes_eq name (codes "apply") then Some Apply else (if bytes_eq name (codes "run") then Some Run else None)
+text_command name = if bytes_eq name (codes "apply") then Some Apply else (if bytes_eq name (codes "run") then Some Run else (if bytes_eq name (codes "verify") then Some (Verify false) else None))
 
 -- a number of workers: one to four digits
 abbrev pub workers_of : List ℕ → Option ℕ
@@ -65,11 +71,18 @@ workers_of (b ∷ bs) = if nat_lt 3 (length bs) then None else with_digits 0 (b 
 abbrev pub usual_workers : ℕ
 usual_workers = 4
 
--- the calls on a graph and one word more: a race, a table by the usual number of workers, or a second text
+-- the calls on a graph and one word more: a race, a table by the usual number of workers, what a vertex can come to, or a second text
 abbrev pub texts_call : List ℕ → List ℕ → List ℕ → Option CallWords
 texts_call name graph second =
     if bytes_eq name (codes "race") then Some (Race graph second)
-    else (if bytes_eq name (codes "table") then Some (File (Table second usual_workers) graph) else option_map (λ c. Files c graph second) (text_command name))
+    else (if bytes_eq name (codes "table") then Some (File (Table second usual_workers) graph)
+    else (if bytes_eq name (codes "reach") then Some (File (Reach second) graph) else option_map (λ c. Files c graph second) (text_command name)))
+
+-- the calls on a graph and two words more: who can come to have rights over a vertex, and a policy with derivations
+abbrev pub two_words_call : List ℕ → List ℕ → List ℕ → List ℕ → Option CallWords
+two_words_call name graph second third =
+    if bytes_eq name (codes "who") then Some (File (Who second third) graph)
+    else (if bytes_eq name (codes "verify") && bytes_eq third (codes "--why") then Some (Files (Verify true) graph second) else None)
 
 -- a table by so many workers
 abbrev pub table_command : List ℕ → List ℕ → List ℕ → Option CommandWords
@@ -86,6 +99,6 @@ call_of [] = Some Input
 call_of (name ∷ []) = None
 call_of (name ∷ graph ∷ []) = option_map (λ c. File c graph) (graph_command name)
 call_of (name ∷ graph ∷ second ∷ []) = texts_call name graph second
-call_of (name ∷ graph ∷ right ∷ x ∷ []) = None
+call_of (name ∷ graph ∷ second ∷ third ∷ []) = two_words_call name graph second third
 call_of (name ∷ graph ∷ right ∷ x ∷ y ∷ []) = option_map (λ c. File c graph) (question name right x y)
 call_of (name ∷ graph ∷ right ∷ x ∷ y ∷ z ∷ more) = None

@@ -3,8 +3,11 @@ pub mod Faults
 pub mod Calls
 pub mod Readings
 pub mod Runs
+pub mod Derived
+pub mod Policies
 pub mod Reports
 pub mod Outcomes
+pub mod PolicyParts
 pub mod Dealings
 pub mod Races
 pub mod RaceParts

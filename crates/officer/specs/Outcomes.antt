@@ -1,9 +1,11 @@
 -- What the parts of a report's making bring.
-use Rattle.std.specs.Prelude.{◌≡◌, if◌then◌else◌, ⊤, All, ◌<◌, ℕ, nat_eq, bytes_eq, position, map, filter, option_and_then, Bool, true, false, unwrap_or, List, [], ◌∷◌, ◌++◌, ◌≤◌, length, slice_index_or, Option, Some, None, Result, Ok, Err}
+use Rattle.std.specs.Prelude.{◌≡◌, if◌then◌else◌, ⊤, All, ◌<◌, ℕ, nat_eq, bytes_eq, position, map, filter, option_and_then, Bool, true, false, unwrap_or, List, [], ◌∷◌, ◌++◌, ◌≤◌, length, slice_index_or, slice_get, Option, Some, None, Result, Ok, Err}
 use Rattle.std.specs.List.{flat_map}
 use Rattle.std.specs.Option.{option_eq, option_map_or}
+use Rattle.tg_graph.specs.declared.right_sets.Rights.{Rights}
 use Rattle.tg_graph.specs.declared.rules.Refusal.{Refusal}
 use Rattle.tg_graph.specs.declared.session.Reply.TheVariants.{Done, Refused}
+use Rattle.tg_graph.specs.Sets.{nothing}
 use Rattle.tg_graph.specs.Graphs.{Name, ProtectionGraph, has_vertex}
 use Rattle.tg_graph.specs.GraphOf.{graph_of}
 use Rattle.tg_graph.specs.Limits.{most_vertices, most_cells, most_seats}
@@ -24,10 +26,12 @@ use Rattle.officer.specs.declared.outcome.Halt.{Halt}
 use Rattle.officer.specs.declared.outcome.Halt.TheVariants as halt
 use Rattle.officer.specs.declared.inputs.Question.{Question}
 use Rattle.officer.specs.declared.inputs.TableWork.{TableWork}
+use Rattle.officer.specs.declared.inputs.WhoQuestion.{WhoQuestion}
+use Rattle.officer.specs.declared.inputs.ReachQuestion.{ReachQuestion}
 use Rattle.tg_text.specs.Reading.{◌>>=◌}
 use Rattle.officer.specs.declared.playing.AppliedRules.{AppliedRules}
-use Rattle.officer.specs.Readings.{ReportText, rules_in, Question as Asked, TableQuestion}
-use Rattle.officer.specs.Reports.{Played, played, reply_line, island_line, digit_for}
+use Rattle.officer.specs.Readings.{ReportText, rules_in, Question as Asked, TableQuestion, WhoQuestion as WhoAsked, ReachQuestion as ReachAsked}
+use Rattle.officer.specs.Reports.{Played, played, reply_line, island_line, digit_for, name_line, reach_line}
 use Rattle.officer.specs.Runs.{IsOutcome}
 
 abbrev pub report_text : Report → ReportText
@@ -156,3 +160,25 @@ placed_line table entries e = e.0 ++ 32 ∷ map (λ f. digit_at table e.1 f.1) e
 -- the lines of names with their places
 abbrev pub placed_text : Table → List (Name × Option ℕ) → List ℕ
 placed_text table entries = flat_map (placed_line table entries) entries
+
+abbrev pub who_question_of : WhoQuestion → WhoAsked
+who_question_of q = record { graph = graph_of q.graph; rights = q.rights; y = q.y }
+
+abbrev pub reach_question_of : ReachQuestion → ReachAsked
+reach_question_of q = record { graph = graph_of q.graph; x = q.x }
+
+-- whether the vertex of that name is marked, where the vertices have these marks by position
+abbrev pub is_marked_name : List Name → List Bool → Name → Bool
+is_marked_name vs marks v = unwrap_or (option_and_then (λ place. slice_get marks place) (place_in vs v)) false
+
+-- the lines of the names that are marked
+abbrev pub marked_text : List Name → List Bool → List Name → List ℕ
+marked_text vs marks names = flat_map (λ v. name_line (is_marked_name vs marks v) v) names
+
+-- the set of the vertex of that name, where the vertices have these sets by position
+abbrev pub set_of_name : List Name → List Rights → Name → Rights
+set_of_name vs sets v = unwrap_or (option_and_then (λ place. slice_get sets place) (place_in vs v)) nothing
+
+-- the lines of the names that have a right
+abbrev pub reached_text : List Name → List Rights → List Name → List ℕ
+reached_text vs sets names = flat_map (λ v. reach_line (set_of_name vs sets v) v) names

@@ -72,7 +72,7 @@ pub record EndsInFault (text : List ℕ) (fault : StoreMeetFault) (report : Repo
   pub says : report ≡ foreign_report text place
 
 -- ---- the meetings
--- the seat has met one other: it has taken in all that it has seen, which is as long as what the longer of the two had seen
+-- the seat has met one other: what the other has seen begins what it has taken in; it has taken in all that it has seen, which is as long as the longer of what the two had seen
 pub record MeetsOne (old other new : RunningSeat) : Type 0 where
   pub met : Begins other.pass.seen (taken_in new)
   pub all : new.taken ≡ length new.pass.seen

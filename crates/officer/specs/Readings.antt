@@ -13,6 +13,7 @@ use Rattle.tg_text.specs.Words.{right_of}
 use Rattle.tg_text.specs.GraphText.{graph_text}
 use Rattle.tg_text.specs.RuleText.{rules_text}
 use Rattle.tg_text.specs.ScriptText.{ScriptOf, script_text}
+use Rattle.tg_text.specs.PolicyText.{PolicyLineOf, policy_text}
 use Rattle.tg_text.specs.Canonical.{line_of}
 use Rattle.tg_analysis.specs.Tables.{most_workers}
 
@@ -31,6 +32,7 @@ kind_word kind.BadRights = codes "bad-rights"
 kind_word kind.DuplicateVertex = codes "duplicate-vertex"
 kind_word kind.TooManyVertices = codes "too-many-vertices"
 kind_word kind.UnknownVertex = codes "unknown-vertex"
+kind_word kind.UnknownGroup = codes "unknown-group"
 kind_word kind.DuplicateEdge = codes "duplicate-edge"
 kind_word kind.TooMany = codes "too-many"
 kind_word kind.NoHeader = codes "no-header"
@@ -57,6 +59,21 @@ rules_in bytes = from_text (codes "rules") (rules_text bytes)
 abbrev pub script_in : List ℕ → Result ScriptOf ReportText
 script_in bytes = from_text (codes "script") (script_text bytes)
 
+abbrev pub policy_lines_in : ProtectionGraph → List ℕ → Result (List PolicyLineOf) ReportText
+policy_lines_in g bytes = from_text (codes "policy") (policy_text g bytes)
+
+-- a policy over a graph
+pub record PolicyOver : Type 0 where
+  pub graph : ProtectionGraph
+  pub lines : List PolicyLineOf
+
+-- the policy of a text over the graph of another, which is read first
+abbrev pub policy_in : List ℕ → List ℕ → Result PolicyOver ReportText
+policy_in first second = do
+  g ← graph_in first
+  lines ← policy_lines_in g second
+  Ok (record { graph = g; lines = lines })
+
 -- the right that a word of one letter writes
 abbrev pub right_in : List ℕ → Result Right ReportText
 right_in word = ok_or (right_of word) (refusal (codes "bad-right" ∷ []))
@@ -73,7 +90,7 @@ name_in word = if is_ok (name_of word) then Ok word else Err (refusal (codes "ba
 abbrev pub vertex_in : ProtectionGraph → Name → Result Name ReportText
 vertex_in g v = if has_vertex g v then Ok v else Err (refusal (codes "unknown" ∷ v ∷ []))
 
--- whether x can come to have the rights over y
+-- a question to a graph: whether x can come to have the rights over y
 pub record Question : Type 0 where
   pub graph : ProtectionGraph
   pub rights : Rights
@@ -91,11 +108,39 @@ question_in first rights x y = do
   v ← vertex_in g b
   Ok (record { graph = g; rights = s; x = u; y = v })
 
+-- a question to a graph: who can come to have the rights over y
+pub record WhoQuestion : Type 0 where
+  pub graph : ProtectionGraph
+  pub rights : Rights
+  pub y : Name
+
+-- what is asked of the graph of a text, the words in their order
+abbrev pub who_in : List ℕ → List ℕ → List ℕ → Result WhoQuestion ReportText
+who_in first rights y = do
+  g ← graph_in first
+  s ← rights_in rights
+  b ← name_in y
+  v ← vertex_in g b
+  Ok (record { graph = g; rights = s; y = v })
+
+-- a question to a graph: what x can come to have
+pub record ReachQuestion : Type 0 where
+  pub graph : ProtectionGraph
+  pub x : Name
+
+-- what is asked of the graph of a text
+abbrev pub reach_in : List ℕ → List ℕ → Result ReachQuestion ReportText
+reach_in first x = do
+  g ← graph_in first
+  a ← name_in x
+  u ← vertex_in g a
+  Ok (record { graph = g; x = u })
+
 -- a number of workers that there may be
 abbrev pub workers_in : ℕ → Result ℕ ReportText
 workers_in workers = if nat_eq workers 0 || nat_lt most_workers workers then Err (refusal (codes "workers" ∷ [])) else Ok workers
 
--- for each two vertices, whether the first can come to have the right over the second
+-- a question to a graph: for each two vertices, whether the first can come to have the right over the second
 pub record TableQuestion : Type 0 where
   pub graph : ProtectionGraph
   pub right : Right

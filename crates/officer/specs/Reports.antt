@@ -2,10 +2,13 @@
 use Rattle.std.specs.Prelude.{◌≡◌, ◌⊎◌, ◌↔◌, IsTrue, filter, ℕ, nat_le, Bool, true, false, ◌&&◌, List, [], ◌∷◌, ◌++◌, map, length, codes, bytes_eq, decimal, Option, Some, None, Result, Ok, Err, if◌then◌else◌}
 use Rattle.std.specs.List.{flat_map, before_first, after_first}
 use Rattle.tg_graph.specs.declared.right_sets.Right.{Right}
+use Rattle.tg_graph.specs.declared.right_sets.Rights.{Rights}
 use Rattle.tg_graph.specs.declared.rules.Refusal.{Refusal}
 use Rattle.tg_graph.specs.declared.session.Reply.{Reply}
 use Rattle.tg_graph.specs.declared.session.Reply.TheVariants.{Done, Refused}
 use Rattle.tg_graph.specs.declared.rules.Rule.{Rule}
+use Rattle.tg_graph.specs.Sets.{IsNamed, is_empty_set, member}
+use Rattle.tg_graph.specs.Letters.{letters_of}
 use Rattle.tg_graph.specs.Graphs.{Name, same_name, ProtectionGraph, has_vertex}
 use Rattle.tg_graph.specs.RuleLists.{CanShare, CanShareAll}
 use Rattle.tg_graph.specs.Rules.{refusal_of, after}
@@ -14,12 +17,13 @@ use Rattle.tg_text.specs.declared.rule_text.RuleLine.{RuleLine}
 use Rattle.tg_text.specs.Lines.{lines_of, words_of}
 use Rattle.tg_text.specs.Reading.{◌>>=◌}
 use Rattle.tg_text.specs.Spelling.{reply_words}
-use Rattle.tg_text.specs.RoundTrips.{lines_of_rules}
 use Rattle.tg_text.specs.Canonical.{line_of, canonical_text, in_name_order}
 use Rattle.tg_analysis.specs.Sharing.{InOneIsland}
 use Rattle.tg_analysis.specs.SetDerivations.{IsDerivationOfAll}
-use Rattle.officer.specs.Calls.{CommandWords, Case, Check, Apply, Islands, Share, Derive, Table, Run}
-use Rattle.officer.specs.Readings.{ReportText, graph_in, rules_in, Question, question_in, TableQuestion, table_in}
+use Rattle.officer.specs.Calls.{CommandWords, Case, Check, Apply, Islands, Share, Derive, Table, Run, Who, Reach, Verify}
+use Rattle.officer.specs.Readings.{ReportText, graph_in, rules_in, Question, question_in, TableQuestion, table_in, WhoQuestion, who_in, ReachQuestion, reach_in, policy_in}
+use Rattle.officer.specs.Derived.{derivation_report}
+use Rattle.officer.specs.Policies.{IsVerified}
 use Rattle.officer.specs.Runs.{playing_in, IsPlayed}
 
 -- the line of a reply, after the number of the rule's own line
@@ -91,10 +95,6 @@ IsAnswer q report =
     (CanShareAll q.graph q.rights q.x q.y × (report ≡ says (codes "yes" ∷ [])))
     ⊎ ((CanShareAll q.graph q.rights q.x q.y → ⊥) × (report ≡ says (codes "no" ∷ [])))
 
--- a list of rules as a text of rules
-abbrev pub derivation_report : List Rule → ReportText
-derivation_report rules = record { bytes = line_of (codes "#" ∷ codes "yes" ∷ decimal (length rules) ∷ []) ++ lines_of_rules rules; status = 0 }
-
 -- rules that give each of the rights; no exactly where no list of rules does
 abbrev pub IsDerived : Question → ReportText → Type 0
 IsDerived q report =
@@ -136,6 +136,45 @@ abbrev pub AreTableLines : TableQuestion → ReportText → Type 0
 AreTableLines q report =
     (shares : Name → Name → Bool) × TellsSharing q.graph q.right shares × (report ≡ record { bytes = table_text shares (in_name_order q.graph.vertices); status = 0 })
 
+-- the test tells who can come to have the rights over y
+abbrev pub TellsWho : ProtectionGraph → Rights → Name → (Name → Bool) → Type 0
+TellsWho g rights y comes = (x : Name) → has_vertex g x ≡ true → IsTrue (comes x) ↔ CanShareAll g rights x y
+
+-- the line of a name, if it is to have one
+abbrev pub name_line : Bool → Name → List ℕ
+name_line has_line v = if has_line then v ++ 10 ∷ [] else []
+
+-- a line for each of the names that passes the test
+abbrev pub who_text : (Name → Bool) → List Name → List ℕ
+who_text comes vs = flat_map (λ v. name_line (comes v) v) vs
+
+-- a line for each vertex that can come to have the rights over y, in name order
+abbrev pub AreWhoLines : WhoQuestion → ReportText → Type 0
+AreWhoLines q report =
+    (comes : Name → Bool) × TellsWho q.graph q.rights q.y comes × (report ≡ record { bytes = who_text comes (in_name_order q.graph.vertices); status = 0 })
+
+-- exactly these rights can x come to have over y
+pub record IsReached (g : ProtectionGraph) (x y : Name) (reached : Rights) : Type 0 where
+  pub named : IsNamed reached
+  pub exact : (right : Right) → IsTrue (member reached right) ↔ CanShare g right x y
+
+-- the sets tell what x can come to have over whom
+abbrev pub TellsReach : ProtectionGraph → Name → (Name → Rights) → Type 0
+TellsReach g x reached = (y : Name) → has_vertex g y ≡ true → IsReached g x y (reached y)
+
+-- the line of a name and a set of rights, if that has any
+abbrev pub reach_line : Rights → Name → List ℕ
+reach_line s v = if is_empty_set s then [] else v ++ 32 ∷ letters_of s ++ 10 ∷ []
+
+-- a line for each of the names whose set has a right
+abbrev pub reach_text : (Name → Rights) → List Name → List ℕ
+reach_text reached vs = flat_map (λ v. reach_line (reached v) v) vs
+
+-- a line for each vertex over which x can come to have some right, in name order, with the letters of exactly those rights
+abbrev pub AreReachLines : ReachQuestion → ReportText → Type 0
+AreReachLines q report =
+    (reached : Name → Rights) × TellsReach q.graph q.x reached × (report ≡ record { bytes = reach_text reached (in_name_order q.graph.vertices); status = 0 })
+
 -- the report of a fault, or one of which the fact holds
 abbrev pub IsFor : {A : Type 0} → (A → ReportText → Type 0) → Result A ReportText → ReportText → Type 0
 IsFor P (Ok a) report = P a report
@@ -154,3 +193,6 @@ IsReport (Share rights x y) first second = IsFor IsAnswer (question_in first rig
 IsReport (Derive rights x y) first second = IsFor IsDerived (question_in first rights x y)
 IsReport (Table right workers) first second = IsFor AreTableLines (table_in first right workers)
 IsReport Run first second = IsFor (λ playing. IsPlayed playing.graph playing.script) (playing_in first second)
+IsReport (Who rights y) first second = IsFor AreWhoLines (who_in first rights y)
+IsReport (Reach x) first second = IsFor AreReachLines (reach_in first x)
+IsReport (Verify why) first second = IsFor (λ policy. IsVerified why policy.graph policy.lines) (policy_in first second)

@@ -14,6 +14,13 @@ fn words_read(rt: HostRuntime) {
     let script = Call::Files(Command::Run, "g", "s");
     calls_for(&rt, &["run", "g", "s"], script);
     calls_for(&rt, &["race", "g", "s"], Call::Race("g", "s"));
+    calls_for(
+        &rt,
+        &["reach", "g", "a"],
+        Call::File(Command::Reach { x }, "g"),
+    );
+    let verify = Call::Files(Command::Verify { why: true }, "g", "p");
+    calls_for(&rt, &["verify", "g", "p", "--why"], verify);
     no_call(&rt, &["fly", "g"]);
 }
 

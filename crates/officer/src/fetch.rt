@@ -111,8 +111,8 @@ pub fn fetch_counting<R: Read>(
 
 /// All bytes that a reader gives up to its end. A read that was interrupted is tried again.
 ///
-/// Its errors are those of `fetch_counting`, with no read interrupted before. The contract says so of some
-/// number of reads alone, and too large leaves that open.
+/// Its errors are those of `fetch_counting`, with no read interrupted before. Its contract says only that
+/// some number of reads fits, which says nothing of an input that is too large.
 pub fn fetch<R: Read>(alloc: Global, reader: &mut R) -> Result<Vec<u8>, FetchFault>
     ensures whole { IfOk result
         (λ bytes. IfSome (R.remaining reader.old) (λ given. bytes.items ≡ given)) }

@@ -4,8 +4,9 @@ ghost use Rattle.tg_graph.specs.GraphOf.{graph_of};
 ghost use Rattle.tg_graph.specs.Graphs.{has_vertex};
 ghost use Rattle.tg_graph.specs.Limits.{most_vertices};
 ghost use Rattle.tg_text.specs.ScriptText.{script_of};
-ghost use Rattle.officer.specs.Readings.{kind_word, refusal, text_refusal, graph_in, script_in, right_in, rights_in, name_in, vertex_in, question_in, workers_in, table_in};
-ghost use Rattle.officer.specs.Outcomes.{Brings, report_text, played_in, played_so_far, question_of, table_question_of, IsAskable, IsTableWork, IsPlayableScript};
+ghost use Rattle.tg_text.specs.PolicyText.{policy_of, ArePolicyLines};
+ghost use Rattle.officer.specs.Readings.{kind_word, refusal, text_refusal, graph_in, script_in, policy_lines_in, right_in, rights_in, name_in, vertex_in, question_in, workers_in, table_in, who_in, reach_in};
+ghost use Rattle.officer.specs.Outcomes.{Brings, report_text, played_in, played_so_far, question_of, table_question_of, who_question_of, reach_question_of, IsAskable, IsTableWork, IsPlayableScript};
 
 use crate::outcome::{Halt, Report};
 use crate::playing::AppliedRules;
@@ -13,7 +14,8 @@ use std::alloc::{AllocError, Global};
 use tg_analysis::MOST_WORKERS;
 use tg_graph::{Graph, Name, NameFault, Refusal, Reply, Right, Rights};
 use tg_text::{
-    Script, TextFault, TextKind, append_reply, read_graph, read_rules_into, read_script,
+    PolicyLine, Script, TextFault, TextKind, append_reply, read_graph, read_policy,
+    read_rules_into, read_script,
 };
 
 // The word for what is wrong with a line.
@@ -30,6 +32,7 @@ fn kind_word(kind: TextKind) -> &'static str
         TextKind::DuplicateVertex => "duplicate-vertex",
         TextKind::TooManyVertices => "too-many-vertices",
         TextKind::UnknownVertex => "unknown-vertex",
+        TextKind::UnknownGroup => "unknown-group",
         TextKind::DuplicateEdge => "duplicate-edge",
         TextKind::TooMany => "too-many",
         TextKind::NoHeader => "no-header",
@@ -89,6 +92,26 @@ pub(crate) fn script_in(alloc: Global, text: &[u8]) -> Result<Script, Halt>
         Ok(script) => Ok(script),
         Err(TextFault::At { line, kind }) => {
             Err(Halt::Refused(text_refusal(alloc, "script", line, kind)?))
+        }
+        Err(TextFault::Memory) => Err(Halt::Memory),
+    }
+}
+
+// The lines of a policy over a graph, or the report of the text's first fault.
+pub(crate) fn policy_lines_in(
+    alloc: Global,
+    graph: &Graph,
+    text: &[u8],
+) -> Result<Vec<PolicyLine>, Halt>
+    ensures made { Brings (λ lines. policy_of lines.items) result
+        (policy_lines_in (graph_of graph.now) text.now) }
+    ensures sound { IfOk result (λ lines.
+        ArePolicyLines (graph_of graph.now) (policy_of lines.items)) }
+{
+    match read_policy(alloc, graph, text) {
+        Ok(lines) => Ok(lines),
+        Err(TextFault::At { line, kind }) => {
+            Err(Halt::Refused(text_refusal(alloc, "policy", line, kind)?))
         }
         Err(TextFault::Memory) => Err(Halt::Memory),
     }
@@ -191,6 +214,46 @@ pub(crate) fn question_in(
         x,
         y,
     })
+}
+
+/// A question to a graph: who can come to have the rights over y.
+#[derive(Drop)]
+pub(crate) struct WhoQuestion {
+    pub graph: Graph,
+    pub rights: Rights,
+    pub y: Name,
+}
+
+// The question of a text and words, or the report of the first fault.
+pub(crate) fn who_in(alloc: Global, text: &[u8], rights: &str, y: &str) -> Result<WhoQuestion, Halt>
+    ensures made { Brings who_question_of result (who_in text.now rights.now y.now) }
+    ensures known { IfOk result
+        (λ question. has_vertex (graph_of question.graph) question.y ≡ true) }
+{
+    let graph = graph_in(alloc, text)?;
+    let rights = rights_in(alloc, rights)?;
+    let y = name_in(alloc, y)?;
+    let y = vertex_in(alloc, &graph, y)?;
+    Ok(WhoQuestion { graph, rights, y })
+}
+
+/// A question to a graph: what x can come to have.
+#[derive(Drop)]
+pub(crate) struct ReachQuestion {
+    pub graph: Graph,
+    pub x: Name,
+}
+
+// The question of a text and a word, or the report of the first fault.
+pub(crate) fn reach_in(alloc: Global, text: &[u8], x: &str) -> Result<ReachQuestion, Halt>
+    ensures made { Brings reach_question_of result (reach_in text.now x.now) }
+    ensures known { IfOk result
+        (λ question. has_vertex (graph_of question.graph) question.x ≡ true) }
+{
+    let graph = graph_in(alloc, text)?;
+    let x = name_in(alloc, x)?;
+    let x = vertex_in(alloc, &graph, x)?;
+    Ok(ReachQuestion { graph, x })
 }
 
 fn workers_in(alloc: Global, workers: u64) -> Result<u64, Halt>

@@ -160,6 +160,74 @@ fn most_events(rt: HostRuntime) -> Result<(), Fail> {
     refuses_repeated(&rt, Command::Run, header, b"1 begin\n", 65537, wanted)
 }
 
+// Of two vertices the first can read the second.
+const READER: &[u8] = b"vertex a\nvertex b\nedge a b r\n";
+
+// A policy over them that begins with a comment, has a line so many times, and then a last one.
+fn policy(alloc: Global, line: &[u8], count: usize, last: &[u8]) -> Result<Vec<u8>, AllocError> {
+    let mut text = repeated(alloc, b"# who reads b\n", line, count)?;
+    text.extend_from_slice(last)?;
+    Ok(text)
+}
+
+// Its report has so many lines, the last of them these.
+fn verifies<R: Abort + Threads + Sync + AllocGlobal>(
+    rt: &R,
+    line: &[u8],
+    last: &[u8],
+    wanted: &[u8],
+    lines: usize,
+    status: u8,
+) -> Result<(), Fail> {
+    let verify = Command::Verify { why: false };
+    let text = policy(rt.alloc(), line, 65_535, last)?;
+    let made = report(rt, rt.alloc(), &verify, READER, &text)?;
+    assert!(rt; made.bytes.ends_with(wanted));
+    assert!(rt; lines_of(&made.bytes) == lines);
+    assert!(rt; made.status == status);
+    Ok(())
+}
+
+#[test]
+fn most_lines_of_a_policy(rt: HostRuntime) -> Result<(), Fail> {
+    for (line, last, wanted, lines, status) in [
+        (
+            b"only r b a\n".as_slice(),
+            b"never r a b\n".as_slice(),
+            b"\n65536 holds\n65537 fails r a b\nbroken 1\n".as_slice(),
+            65_537,
+            1,
+        ),
+        (
+            b"group g a\n",
+            b"only r b @g\n# end\n",
+            b"65537 holds\nkept\n",
+            2,
+            0,
+        ),
+    ] {
+        verifies(&rt, line, last, wanted, lines, status)?;
+    }
+    Ok(())
+}
+
+#[test]
+fn a_line_too_many_of_a_policy(rt: HostRuntime) -> Result<(), Fail> {
+    for (last, wanted) in [
+        (
+            b"group g a\nonly r b a\n".as_slice(),
+            b"refused policy line 65538 too-many\n".as_slice(),
+        ),
+        (
+            b"only r b a\n\ngroup g a\n",
+            b"refused policy line 65539 too-many\n",
+        ),
+    ] {
+        verifies(&rt, b"group g a\n", last, wanted, 1, 1)?;
+    }
+    Ok(())
+}
+
 // The report of a script on the empty graph ends so.
 fn ends<R: Abort + Threads + Sync + AllocGlobal>(
     rt: &R,

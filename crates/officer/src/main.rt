@@ -7,6 +7,7 @@ pub mod deliver;
 mod famine_tests;
 pub mod fault;
 pub mod fetch;
+mod groups;
 mod inputs;
 mod island_lines;
 pub mod laws;
@@ -18,10 +19,13 @@ pub mod outcome;
 mod outcome_lines;
 mod parts;
 mod playing;
+#[cfg(test)]
+mod policy_report_tests;
 pub mod race;
 mod race_lines;
 #[cfg(test)]
 mod race_tests;
+mod reach_lines;
 pub mod report;
 #[cfg(test)]
 mod run_tests;
@@ -40,8 +44,13 @@ mod test_words;
 #[cfg(test)]
 mod tests;
 mod turns;
+mod verdicts;
+mod verifying;
 #[cfg(test)]
 mod version_tests;
+mod who_lines;
+#[cfg(test)]
+mod who_tests;
 pub mod words;
 
 use call::run;

@@ -82,6 +82,30 @@ fn refused_tables(rt: HostRuntime) -> Result<(), Fail> {
 }
 
 #[test]
+fn refused_questions_about_one_vertex(rt: HostRuntime) -> Result<(), Fail> {
+    let (rights, y) = ("r", "c");
+    reports(&rt, Command::Who { rights, y }, b"", b"a\nb\n")?;
+    reports(&rt, Command::Reach { x: "a" }, b"", b"b g\nc r\n")?;
+    Ok(())
+}
+
+#[test]
+fn refused_policies(rt: HostRuntime) -> Result<(), Fail> {
+    let policy = b"group g b a\nonly r c @g\nmay r @g c\nnever w @g c\n";
+    let kept = b"2 holds\n3 holds\n4 holds\nkept\n";
+    reports(&rt, Command::Verify { why: false }, policy, kept)?;
+    let broken = b"1 fails r b c\n# yes 0\nbroken 1\n";
+    reports(&rt, Command::Verify { why: true }, b"only r c a\n", broken)?;
+    reports(
+        &rt,
+        Command::Verify { why: true },
+        b"only r c @g\n",
+        b"refused policy line 1 unknown-group\n",
+    )?;
+    Ok(())
+}
+
+#[test]
 fn refused_rules(rt: HostRuntime) -> Result<(), Fail> {
     reports(
         &rt,

@@ -10,9 +10,12 @@ use crate::island_lines::islands_report;
 use crate::outcome::{Halt, Report};
 use crate::parts::parts_of;
 use crate::playing::AppliedRules;
+use crate::reach_lines::reach;
 use crate::running::run;
 use crate::sharing::{derive, share};
 use crate::table_lines::table;
+use crate::verifying::verify;
+use crate::who_lines::who;
 use crate::words::Command;
 use std::alloc::{AllocError, Global};
 use std::thread::Threads;
@@ -96,6 +99,9 @@ pub fn report<R: Threads + Sync>(
         Command::Derive { rights, x, y } => derive(alloc, first, rights, x, y),
         Command::Table { right, workers } => table(rt, alloc, first, right, workers),
         Command::Run => run(alloc, first, second),
+        Command::Who { rights, y } => who(alloc, first, rights, y),
+        Command::Reach { x } => reach(alloc, first, x),
+        Command::Verify { why } => verify(alloc, first, second, why),
     };
     match made {
         Ok(report) => Ok(report),

@@ -2,7 +2,8 @@
 ghost use Rattle.std.specs.Prelude.{◌≡◌, ◌++◌, IfOk, OnOk};
 ghost use Rattle.tg_text.specs.RoundTrips.{lines_of_rules};
 ghost use Rattle.officer.specs.Readings.{question_in};
-ghost use Rattle.officer.specs.Reports.{IsFor, IsAnswer, IsDerived, derivation_report};
+ghost use Rattle.officer.specs.Reports.{IsFor, IsAnswer, IsDerived};
+ghost use Rattle.officer.specs.Derived.{derivation_report};
 ghost use Rattle.officer.specs.Outcomes.{Makes, report_text, question_of, IsAskable};
 
 use crate::inputs::{Question, question_in};
@@ -67,13 +68,23 @@ fn append_rules(text: &mut Vec<u8>, rules: &[Rule]) -> Result<(), AllocError>
     Ok(())
 }
 
+// Appends rules as a text of rules: a line with their number, and then each.
+pub(crate) fn append_derivation(text: &mut Vec<u8>, rules: &[Rule]) -> Result<(), AllocError>
+    ensures { OnOk result (text.new.items
+        ≡ text.old.items ++ (derivation_report rules.now).bytes) }
+{
+    text.extend_from_slice(b"# yes ")?;
+    append_number(text, rules.len())?;
+    text.push(b'\n')?;
+    append_rules(text, rules)?;
+    Ok(())
+}
+
 fn rules_report(alloc: Global, rules: &[Rule]) -> Result<Report, AllocError>
     ensures { IfOk result (λ report. report_text report ≡ derivation_report rules.now) }
 {
-    let mut bytes = Vec::from_slice(alloc, b"# yes ")?;
-    append_number(&mut bytes, rules.len())?;
-    bytes.push(b'\n')?;
-    append_rules(&mut bytes, rules)?;
+    let mut bytes = Vec::new(alloc);
+    append_derivation(&mut bytes, rules)?;
     Ok(Report { bytes, status: 0 })
 }
 

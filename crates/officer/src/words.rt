@@ -1,7 +1,7 @@
 //! What the command line asks for.
 ghost use Rattle.std.specs.Prelude.{◌≡◌, map};
 ghost use Rattle.std.specs.Option.{option_map};
-ghost use Rattle.officer.specs.Calls.{call_of, call_words, command_of, command_words, graph_command, text_command, texts_call, table_command, question, workers_of};
+ghost use Rattle.officer.specs.Calls.{call_of, call_words, command_of, command_words, graph_command, text_command, texts_call, table_command, two_words_call, question, workers_of};
 ghost use Rattle.std.specs.Prelude.{◌≤◌, length};
 ghost use Rattle.tg_text.specs.Words.{is_digit, with_digits};
 
@@ -38,6 +38,19 @@ pub enum Command<'a> {
     },
     /// What a script leads to.
     Run,
+    /// Who can come to have the rights over y.
+    Who {
+        rights: &'a str,
+        y: &'a str,
+    },
+    /// What x can come to have, and over whom.
+    Reach {
+        x: &'a str,
+    },
+    /// Whether the graph keeps a policy, and with `why` how it comes that it does not.
+    Verify {
+        why: bool,
+    },
 }
 
 /// Where the texts of a command come from.
@@ -82,6 +95,7 @@ fn text_command(name: &str) -> Option<Command<'static>>
     match name {
         "apply" => Some(Command::Apply),
         "run" => Some(Command::Run),
+        "verify" => Some(Command::Verify { why: false }),
         _ => None,
     }
 }
@@ -130,6 +144,7 @@ fn texts_call<'a>(name: &str, graph: &'a str, second: &'a str) -> Option<Call<'a
             },
             graph,
         )),
+        "reach" => Some(Call::File(Command::Reach { x: second }, graph)),
         _ => Some(Call::Files(text_command(name)?, graph, second)),
     }
 }
@@ -165,6 +180,22 @@ fn question<'a>(name: &str, right: &'a str, x: &'a str, y: &'a str) -> Option<Co
     }
 }
 
+fn two_words_call<'a>(
+    name: &str,
+    graph: &'a str,
+    second: &'a str,
+    third: &'a str,
+) -> Option<Call<'a>>
+    ensures { option_map call_words result
+        ≡ two_words_call name.now graph.now second.now third.now }
+{
+    match (name, third) {
+        ("who", y) => Some(Call::File(Command::Who { rights: second, y }, graph)),
+        ("verify", "--why") => Some(Call::Files(Command::Verify { why: true }, graph, second)),
+        _ => None,
+    }
+}
+
 /// The call that the words of a command line, its own name left out, ask for.
 pub fn read_words<'a>(words: &[&'a str]) -> Option<Call<'a>>
     ensures { option_map call_words result ≡ call_of (map (λ word. word.now) words.now) }
@@ -173,6 +204,7 @@ pub fn read_words<'a>(words: &[&'a str]) -> Option<Call<'a>>
         [] => Some(Call::Input),
         [name, graph] => Some(Call::File(graph_command(name)?, graph)),
         [name, graph, second] => texts_call(name, graph, second),
+        [name, graph, second, third] => two_words_call(name, graph, second, third),
         [name, graph, right, x, y] => Some(Call::File(question(name, right, x, y)?, graph)),
         _ => None,
     }
