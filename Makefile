@@ -30,6 +30,8 @@ KERNEL = examples/microkernel
 TILLS = examples/tills
 PICTURES = examples/pictures
 TILLS_APART = python3 $(TILLS).py --apart
+TRUSTED = --without 'serviceaccounts deploy/deployer'
+MENDED_SHOP = grep -v '"RoleBinding".*"integration-tests"' $(SHOP).json | tools/from_rbac $(TRUSTED)
 OPEN_KERNEL = echo 'edge nic_driver log_server g' | cat $(KERNEL).graph -
 LESS_OF_CLUSTER = $(foreach kind,groups secrets pods services events,--without '$(kind) *')
 
@@ -53,6 +55,9 @@ demo: build
 	@$(call show,derive $(GRAPH) r client payroll)
 	@$(call show,apply $(GRAPH) $(FILES).derive.out)
 	@$(call show,table $(GRAPH) r)
+	@$(call show,who $(GRAPH) r payroll)
+	@$(call show,reach $(GRAPH) client)
+	@$(call show,verify $(GRAPH) $(FILES).policy --why) || [ $$? -eq 1 ]
 	@$(call show,run $(GRAPH) $(FILES).script)
 
 examples: build
@@ -66,16 +71,30 @@ examples: build
 	@$(OFFICER) derive $(GRAPH) rw client payroll | diff - $(FILES).both.out
 	@$(OFFICER) derive $(GRAPH) t service clerk | diff - $(FILES).helpers.out
 	@$(OFFICER) table $(GRAPH) r | diff - $(FILES).table.out
+	@$(OFFICER) who $(GRAPH) r payroll | diff - $(FILES).who.out
+	@$(OFFICER) reach $(GRAPH) client | diff - $(FILES).reach.out
+	@$(OFFICER) verify $(GRAPH) $(FILES).policy --why | diff - $(FILES).verify.out
+	@grep -v 'client clerk t' $(GRAPH) | $(OFFICER) verify /dev/stdin $(FILES).policy | diff - $(FILES).kept.out
+	@$(OFFICER) verify $(GRAPH) $(FILES).policy > /dev/null; [ $$? -eq 1 ]
 	@$(OFFICER) run $(GRAPH) $(FILES).script | diff - $(FILES).script.out
 	@$(OFFICER) race $(GRAPH) $(FILES).race.script | diff - $(FILES).race.out
 	@tools/from_rbac $(SHOP).json | diff - $(SHOP).graph
-	@tools/from_rbac $(SHOP).json --without 'serviceaccounts deploy/deployer' | diff - $(SHOP).trusted.graph
+	@tools/from_rbac $(SHOP).json $(TRUSTED) | diff - $(SHOP).trusted.graph
+	@tools/from_rbac $(SHOP).json $(TRUSTED) --policy | diff - $(SHOP).first.policy
+	@! grep -hE '^# [a-z0-9_ ]{16} [^ ]+ [^ ]+$$' $(SHOP).policy $(SHOP).broken.policy | grep -vxFf $(SHOP).trusted.graph
 	@sed 's/"roleRef"/"role"/' $(SHOP).json | tools/from_rbac 2>&1 | diff - $(SHOP).faulty.out
 	@sed 's/"ServiceAccount", "meta/"Pod", "meta/' $(SHOP).json | tools/from_rbac 2>&1 | diff - $(SHOP).foreign.out
 	@python3 bench/cluster.py 8000 | tools/from_rbac 2>&1 | diff - $(SHOP).too_large.out
 	@$(OFFICER) derive $(SHOP).graph r runner payment_key | diff - $(SHOP).runner.out
 	@$(OFFICER) derive $(SHOP).graph r shop_team payment_key | diff - $(SHOP).team.out
 	@$(OFFICER) share $(SHOP).trusted.graph r shop_team payment_key | diff - $(SHOP).trusted.out
+	@$(OFFICER) who $(SHOP).trusted.graph r payment_key | diff - $(SHOP).who.out
+	@$(OFFICER) reach $(SHOP).trusted.graph shop_team | diff - $(SHOP).reach.out
+	@$(OFFICER) verify $(SHOP).trusted.graph $(SHOP).first.policy | diff - $(SHOP).first.out
+	@$(OFFICER) verify $(SHOP).trusted.graph $(SHOP).policy | diff - $(SHOP).verify.out
+	@$(OFFICER) verify $(SHOP).trusted.graph $(SHOP).policy > /dev/null
+	@$(OFFICER) verify $(SHOP).trusted.graph $(SHOP).broken.policy --why | diff - $(SHOP).broken.out
+	@$(MENDED_SHOP) | $(OFFICER) verify /dev/stdin $(SHOP).broken.policy | diff - $(SHOP).mended.out
 	@$(OFFICER) islands $(KERNEL).graph | diff - $(KERNEL).islands.out
 	@$(OFFICER) share $(KERNEL).graph r nic_driver keys | diff - $(KERNEL).share.out
 	@$(OPEN_KERNEL) | $(OFFICER) derive /dev/stdin r nic_driver keys | diff - $(KERNEL).derive.out
@@ -85,6 +104,8 @@ examples: build
 	@$(TILLS_APART) | $(OFFICER) table /dev/stdin d | grep ' .*1' | cut -d ' ' -f 1 | diff - $(TILLS).deleters.out
 	@$(TILLS_APART) | $(OFFICER) islands /dev/stdin | diff - $(TILLS).islands.out
 	@$(TILLS_APART) | $(OFFICER) derive /dev/stdin a till_17_04 ledger_18 | diff - $(TILLS).append.out
+	@$(TILLS_APART) | $(OFFICER) verify /dev/stdin $(TILLS).policy | diff - $(TILLS).verify.out
+	@python3 $(TILLS).py | $(OFFICER) verify /dev/stdin $(TILLS).broken.policy --why | diff - $(TILLS).broken.out
 	$(call each_picture,compare_picture)
 	@echo "Each example prints what is stored beside it."
 

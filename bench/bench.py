@@ -129,6 +129,36 @@ def script(seats, commits, count, seed=17):
     return "\n".join(lines) + "\n"
 
 
+def policy(count, number, seed=29):
+    """So many lines of all kinds, about vertices and groups of 16, behind the lines of these groups."""
+    chance = random.Random(seed)
+    names, groups = [f"v{i}" for i in range(count)], [f"@g{i}" for i in range(64)]
+    lines = [f"group {group[1:]} {' '.join(chance.sample(names, 16))}" for group in groups]
+    for i in range(number):
+        name, some, others = chance.choice(names), chance.choice(groups), chance.choice(groups)
+        forms = f"never ad {some} {name}", f"may r {name} {some}", f"only we {name} {some}", f"never e {some} {others}"
+        lines.append(forms[i % len(forms)])
+    return "\n".join(lines) + "\n"
+
+
+def group_of_all(count):
+    """The lines of a group of all vertices, 16 in each."""
+    names = [f"v{i}" for i in range(count)]
+    return [f"group all {' '.join(names[i:i + 16])}" for i in range(0, count, 16)]
+
+
+def policy_of_all(count, number):
+    """A group of all vertices, and so many lines of which each names it and holds."""
+    lines = group_of_all(count) + [f"only tgrwe v{i * 7 % count} @all" for i in range(number)]
+    return "\n".join(lines) + "\n"
+
+
+def policy_of_groups(count, number):
+    """A group of all vertices, and so many groups of which each takes it in."""
+    lines = group_of_all(count) + [f"group g{i} @all" for i in range(number)]
+    return "\n".join(lines) + "\n"
+
+
 SIZES = (1024, 4096)
 MANY = 1024 * 1024
 
@@ -164,6 +194,16 @@ def workloads(count):
     yield "derive five rights along a chain", count - 2, "links", five, None, ["derive", "tgrwe", "v0", last]
     yield "table of one island", count * count, "cells", chain(count, "g"), None, ["table", "r"]
     yield "table of islands of one vertex", count * count, "cells", chain(count, "r"), None, ["table", "r"]
+    yield "who", MANY, "edges", edges, None, ["who", "r", last]
+    yield "reach", MANY, "edges", edges, None, ["reach", "v0"]
+    yield "who of few edges", 4 * count, "edges", sparse(count, 4 * count), None, ["who", "r", last]
+    yield "verify", 10000, "lines", edges, policy(count, 10000), ["verify"]
+    yield "verify of few edges", 10000, "lines", sparse(count, 4 * count), policy(count, 10000), ["verify"]
+    yield "verify with a group of all", 10000, "lines", edges, policy_of_all(count, 10000), ["verify"]
+    grouped = policy_of_groups(count, 1000)
+    yield "verify with many groups of all", 1000 * count, "members", sparse(count, 4 * count), grouped, ["verify"]
+    asked = f"never r v0 {last}\n" * 16
+    yield "verify --why along a chain", 16, "lines", chain(count, "g"), asked, ["verify", "--why"]
     for seats in (1, 16, 64):
         title = f"run by {seats} seat{'s' * (seats > 1)}"
         yield title, 4096, "commits", sparse(count, 4096), script(seats, 4096, count), ["run"]

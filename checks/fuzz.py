@@ -2,19 +2,21 @@
 """Runs a program on random texts and words, and compares its answers with a small model's.
 
 fuzz.py PROGRAM [--seconds 60] [--seed N] [--case N] [--jobs N]. Each case makes a graph, its text
-of the one version or the other, and rules or a script or words for it. Often it spoils them: bytes
-are flipped, lines dropped, doubled or swapped, words replaced, numbers put at their limits,
-versions named where none may be. The kinds of cases:
+of the one version or the other, and rules, a script, a policy or words for it. Often it spoils
+them: bytes are flipped, lines dropped, doubled or swapped, words replaced, numbers put at their
+limits, versions named where none may be. The kinds of cases:
 
-- `check`, `case`, `apply`, `islands`, `share`, `derive`, `table`, `run`: report and status are the
-  model's, which reads docs/TEXTS.md alone; so the first fault, its line and its kind are, too.
+- `check`, `case`, `apply`, `islands`, `share`, `derive`, `table`, `who`, `reach`, `verify`, `run`:
+  report and status are the model's, which reads docs/TEXTS.md alone; so the first fault, its line
+  and its kind are, too.
 - besides, `check` prints again what it printed, and the graph that `apply` printed; `apply`
   accepts each rule that `derive` printed, and the right is there then; `share` says of a pair what
-  its cell in the table says.
+  its cell in the table, `who` and `reach` say, and whether `verify` lets a line with `may` hold;
+  `derive` prints what stands below a line of `verify --why`.
 - `race`: with one seat it prints what `run` prints; else the report obeys the laws of a race.
 - `words`: a command line has one of the forms, or it is a bad one.
-- `limits`: texts with as many vertices, rules, events or commits as there may be, or one more;
-  rules and sessions that create more vertices than there may be.
+- `limits`: texts with as many vertices, rules, events, commits or lines of a policy as there may
+  be, or one more; rules and sessions that create more vertices than there may be.
 
 The seed is printed first. A case is known by the seed and its number: --seed and --case repeat it
 alone. What a failed case was run on is kept in a folder that is named. The status is 1 then.

@@ -53,12 +53,14 @@ KINDS = [
     words.bad_line_cases,
     words.untold_word_cases,
     words.question_cases,
+    words.option_path_cases,
     words.long_path_cases,
     words.many_word_cases,
     limits.memory_cases,
     limits.stack_cases,
     limits.large_graph_cases,
     limits.large_second_cases,
+    limits.group_cases,
     limits.thread_cases,
 ]
 

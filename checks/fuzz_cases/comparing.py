@@ -1,5 +1,6 @@
 """The kinds of cases: what the program is run on, and what its answer is compared with."""
 import os
+import re
 import subprocess
 from itertools import zip_longest
 
@@ -9,6 +10,8 @@ from model.texts import read_graph, read_script
 
 LONGEST_RUN = 20
 BAD_WORDS = (b"", b"officer: bad command line\n", 2)
+# In a report of `verify`: the right, the x and the y of a line that fails, and its derivation.
+DERIVED = re.compile(rb"[0-9]+ fails (\w) (\w+) (\w+)\n(#.*\n(?:[tgc][a-z]+ .*\n)*)")
 
 
 class Failure(Exception):
@@ -99,13 +102,28 @@ def require_same(what, told, wanted):
         raise Failure(what, told, wanted)
 
 
-def require_report(program, command, texts, further=()):
-    """Requires the report of a command to be the model's: its text, or None for a refusal."""
+def require_answer(program, command, texts, further=()):
+    """Requires the report of a command to be the model's, and answers its text and status."""
     told = program.report(command, *texts, further=further)
     words = [command, *(b"file" for _ in texts), *further]
     text, status = report_of(words, *texts)
     require_same(command.decode(), told, (text, b"", status))
+    return text, status
+
+
+def require_report(program, command, texts, further=()):
+    """Requires the report of a command to be the model's: its text, or None for a refusal."""
+    text, status = require_answer(program, command, texts, further)
     return text if status == 0 else None
+
+
+def require_rights_after(program, graph, rules, question):
+    """Requires `apply` to accept rules that were derived, and x to have the rights over y then."""
+    text = require_report(program, b"apply", [graph, rules])
+    require_same("apply of derive", text is not None, True)
+    rights, x, y = (word.decode() for word in question)
+    after = read_graph(text.partition(b"graph\n")[2])
+    require_same("the rights after derive", set(rights) - {"-"} <= after.rights(x, y), True)
 
 
 # the kinds of cases
@@ -140,9 +158,13 @@ def islands_case(program, make):
 
 
 def share_case(program, make):
-    """`share`."""
+    """`share`, and `verify` of a policy that asks for the same."""
     question = [make.spoil.word(word) for word in make.question(make.rights())]
-    require_report(program, b"share", [make.spoil.text(make.graph_text(), 0.1)], question)
+    graph = make.spoil.text(make.graph_text(), 0.1)
+    text = require_report(program, b"share", [graph], question)
+    if text is not None and question[0] != b"-":
+        told = program.report(b"verify", graph, b"may " + b" ".join(question))
+        require_same("the status of verify", told[1:], (b"", 0 if text == b"yes\n" else 1))
 
 
 def derive_case(program, make):
@@ -150,13 +172,8 @@ def derive_case(program, make):
     question = [make.spoil.word(word, 0.05) for word in make.question(make.rights())]
     graph = make.spoil.text(make.graph_text(), 0.1)
     rules = require_report(program, b"derive", [graph], question)
-    if rules is None or rules == b"# no\n":
-        return
-    text = require_report(program, b"apply", [graph, rules])
-    require_same("apply of derive", text is not None, True)
-    rights, x, y = (word.decode() for word in question)
-    after = read_graph(text.partition(b"graph\n")[2])
-    require_same("the rights after derive", set(rights) - {"-"} <= after.rights(x, y), True)
+    if rules is not None and rules != b"# no\n":
+        require_rights_after(program, graph, rules, question)
 
 
 def table_case(program, make):
@@ -174,6 +191,48 @@ def table_case(program, make):
         cell = rows[x][sorted(rows).index(y)]
         told = program.report(b"share", graph, further=[right, x, y])
         require_same("share of a cell", told, (b"yes\n" if cell == ord("1") else b"no\n", b"", 0))
+
+
+def require_share(program, graph, question, is_yes):
+    """Requires `share` to say yes or no to a question."""
+    told = program.report(b"share", graph, further=question)
+    require_same("share of it", told, (b"yes\n" if is_yes else b"no\n", b"", 0))
+
+
+def who_case(program, make):
+    """`who`, and `share` of one of the vertices."""
+    question = make.question(make.chance.choice([make.rights(), make.right()]))
+    rights, y = (make.spoil.word(word, 0.05) for word in question[::2])
+    graph = make.spoil.text(make.graph_text(), 0.1)
+    text = require_report(program, b"who", [graph], [rights, y])
+    if text is not None:
+        x = make.chance.choice(sorted(read_graph(graph).names)).encode()
+        require_share(program, graph, [rights, x, y], x in text.split())
+
+
+def reach_case(program, make):
+    """`reach`, and `share` of one of its lines and of one right more."""
+    x = make.spoil.word(make.name().encode(), 0.05)
+    graph = make.spoil.text(make.graph_text(), 0.1)
+    text = require_report(program, b"reach", [graph], [x])
+    if text:
+        y, letters = make.chance.choice(text.splitlines()).split()
+        require_share(program, graph, [letters, x, y], True)
+        right = make.right().encode()
+        require_share(program, graph, [right, x, y], right in letters)
+
+
+def verify_case(program, make):
+    """`verify`, and of one of the derivations in its report `derive` and `apply`."""
+    texts = make.spoil.one_of(make.graph_and_policy(), 0.3)
+    why = make.chance.choice([[], [b"--why"]])
+    text, _ = require_answer(program, b"verify", texts, why)
+    derived = DERIVED.findall(text)
+    if derived:
+        *question, rules = make.chance.choice(derived)
+        told = program.report(b"derive", texts[0], further=question)
+        require_same("derive of it", told, (rules, b"", 0))
+        require_rights_after(program, texts[0], rules, question)
 
 
 def run_case(program, make):
@@ -245,6 +304,9 @@ KINDS = {
     "share": (share_case, 10),
     "derive": (derive_case, 14),
     "table": (table_case, 8),
+    "who": (who_case, 6),
+    "reach": (reach_case, 6),
+    "verify": (verify_case, 20),
     "run": (run_case, 16),
     "race": (race_case, 12),
     "words": (words_case, 8),

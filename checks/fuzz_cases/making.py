@@ -1,15 +1,17 @@
-"""Random graphs, rules, scripts and words."""
+"""Random graphs, rules, scripts, policies and words."""
 from itertools import product
 
+from fuzz_cases.claiming import PolicyMaker
 from fuzz_cases.spoiling import Spoiler
 from model.graphs import FIRST, LETTERS, SECOND, Graph
+from model.policies import MOST_POLICY_LINES
 from model.texts import MOST_EVENTS, MOST_RULES
 
 NAMES = ["a", "b", "c", "d", "e", "f", "_0", "_1", "_2", "v10", "z_9", "_", "abcdefghijklmnop"]
 FRESH = ["n", "m", "p0", "_3", "_10", "q"]
 SPACES = [" ", " ", " ", " ", " ", "  ", "\t", " \r", "\r\t "]
 FILLERS = ["", "#", "# vertex a", "  # x", "\t", " \r"]
-COMMANDS = "check islands apply run race table share derive".split()
+COMMANDS = "check islands apply run race table share derive who reach verify".split()
 # The line that names each version, and the most vertices that it has room for.
 LINES_OF_VERSIONS = [
     (b"", FIRST.most_vertices),
@@ -194,17 +196,22 @@ class Maker:
         """The two texts of `run` and `race`."""
         return [self.graph_text(), self.script_text(seats)]
 
+    def graph_and_policy(self):
+        """The two texts of `verify`."""
+        return [self.graph_text(), self.text(PolicyMaker(self).lines())]
+
     def form(self, graph):
         """The words of a command line."""
         ask = [b"r", b"a", self.chance.choice([b"b", b"--workers"])]
         forms = {b"check": [], b"islands": [], b"apply": [graph], b"run": [graph], b"race": [graph]}
         forms.update({b"share": ask, b"derive": ask, b"table": [b"r", b"--workers", b"3"]})
+        forms.update({b"who": [b"r", b"a"], b"reach": [b"a"], b"verify": [graph, b"--why"]})
         command = self.chance.choice(sorted(forms))
         return [command, graph, *forms[command]]
 
     def words(self, files):
         """The words of a command line, good or bad, with one of the files or several."""
-        pool = "r t a b --workers 4 16 Check --help".split() + COMMANDS + ["", "\xe9"]
+        pool = "r t a b --workers 4 16 Check --help --why".split() + COMMANDS + ["", "\xe9"]
         pool = [word.encode() for word in pool] + [b"\xff", b"\xe2\x82"] + files * 3
         words = self.form(files[0] if self.chance.random() < 0.8 else self.chance.choice(files))
         way = self.chance.randrange(6)
@@ -221,7 +228,8 @@ class Maker:
     def at_limits(self):
         """A command, its texts and its further words, at the limits of the texts."""
         ways = [self.many_vertices, self.many_rules, self.many_events, self.many_commits]
-        return self.chance.choice([*ways, self.full_graph, self.full_sessions])()
+        ways += [self.full_graph, self.full_sessions, self.many_claims, self.many_members]
+        return self.chance.choice(ways)()
 
     def many_vertices(self):
         """As many vertices as there may be, one less or one more, and a chain of links."""
@@ -235,6 +243,7 @@ class Maker:
         rights = self.chance.choice([b"w", b"ew", b"wre", b"wa", b"-"])
         ends = [rights, b"v0", f"v{count - 1}".encode()]
         further = {"check": [], "islands": [], "share": ends, "derive": ends, "table": [b"w"]}
+        further.update({"who": [rights, ends[2]], "reach": [b"v0"]})
         command = self.chance.choice(sorted(further))
         return command.encode(), [version + self.text(lines)], further[command]
 
@@ -271,6 +280,27 @@ class Maker:
         events += creates[: self.chance.randint(1, 4)] + [b"2 commit", b"1 commit", b"1 begin"]
         events += [b"1 create v0 last -", b"1 commit"]
         return b"run", [graph, b"seats 2\ncells 9\n" + b"\n".join(events)], []
+
+    def many_claims(self):
+        """As many lines of a policy as there may be, or one more."""
+        count = self.chance.choice([MOST_POLICY_LINES, MOST_POLICY_LINES + 1])
+        line = self.chance.choice([b"group b @a\n", b"never r @a a\n", b"only rw a @a\n"])
+        graph = self.chance.choice([b"vertex a\n", b"vertex a\nedge a a r\n"])
+        return b"verify", [graph, b"group a a\n" + line * (count - 1)], []
+
+    def many_members(self):
+        """A group of as many vertices as there may be, or of all but one."""
+        version, most = self.chance.choice(LINES_OF_VERSIONS)
+        links = [["edge", f"v{i}", f"v{i + 1}", self.chance.choice("tgr")] for i in range(most - 1)]
+        graph = version + vertex_lines(most) + self.text(links)
+        names = [f"v{i}" for i in range(self.chance.randrange(2), most)]
+        self.chance.shuffle(names)
+        lines = [["group", "all", *names[at : at + 20]] for at in range(0, most, 20)]
+        lines += [["only", "rt", name, "@all"] for name in self.chance.sample(names, 9)]
+        lines += [["never", "g", "@all", name] for name in self.chance.sample(names, 9)]
+        lines += [["may", "r", name, "@all"] for name in self.chance.sample(names, 9)]
+        lines += [["only", "rw", "@all", "@all"], ["group", "all", "v0", "@all"]]
+        return b"verify", [graph, self.text(lines)], self.chance.choice([[], [b"--why"]])
 
     def crowded_race(self):
         """The two texts of a race whose seats create more vertices at once than there may be."""

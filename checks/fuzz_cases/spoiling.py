@@ -6,7 +6,7 @@ NASTY_WORDS = (
     "0 1 2 00 01 001 4 64 65 4096 4097 9999 10000 -1 +1 1.0 0x1 - - -- tgrwe tgrwead tgrweada "
     "daewrgt tt q a d r rw ad T A 9a a-b a.b abcdefghijklmnop abcdefghijklmnopq vertex edge take "
     "grant create remove holds share begin commit abort seats cells rules rule version # #a _ __ "
-    "_0 zz a b c"
+    "_0 zz a b c group never may only @ @a @b @_0 @9 @@a"
 ).split()
 # Lines that name a version, or seem to.
 VERSION_LINES = (

@@ -39,6 +39,13 @@ cells 4
 2 share r a c
 2 commit
 """
+POLICY = b"""group staff a b
+group staff @staff
+never a @staff c
+only rw c b
+may tg d @staff
+only t b @staff
+"""
 CASE = GRAPH + b"rules\n" + RULES
 QUESTION = [b"r", b"a", b"c"]
 
@@ -46,11 +53,15 @@ FURTHER = {
     b"share": QUESTION,
     b"derive": QUESTION,
     b"table": [b"r", b"--workers", b"16"],
+    b"who": [b"r", b"c"],
+    b"reach": [b"a"],
+    b"verify": [b"--why"],
 }
-SECOND = {b"apply": RULES, b"run": SCRIPT, b"race": SCRIPT}
+SECOND = {b"apply": RULES, b"run": SCRIPT, b"race": SCRIPT, b"verify": POLICY}
 COMMANDS = [b"", b"check", b"apply", b"islands", b"share", b"derive", b"table", b"run", b"race"]
+COMMANDS += [b"who", b"reach", b"verify"]
 # The word for the second text in reports.
-SECOND_TITLES = {b"apply": "rules", b"run": "script", b"race": "script"}
+SECOND_TITLES = {b"apply": "rules", b"run": "script", b"race": "script", b"verify": "policy"}
 
 
 def title_of(command):
@@ -151,6 +162,27 @@ def star_rules(count):
     return "".join(f"grant v0 v{x} v{y} tg\n" for x, y in pairs).encode()
 
 
+def chain_policy(size, count, chance):
+    """The text of a policy about a chain, with a group of so many vertices and so many claims.
+
+    Behind them stand three claims whose derivations are as long as may be.
+    """
+    names = [f"v{chance.randrange(MOST_VERTICES)}" for _ in range(size)]
+    lines = [f"group some {name}\n" for name in names]
+    for _ in range(count):
+        kind, right = chance.choice(["never", "may", "only"]), chance.choice("rwea")
+        lines.append(f"{kind} {right} {chance.choice(names)} @some\n")
+    return "".join(lines + ["never d v0 v0\n"] * 3).encode()
+
+
+def groups_of_all(count):
+    """The text of a policy about long names: so many groups of all vertices, and no claim."""
+    names = [f"v{number:015}" for number in range(MOST_VERTICES)]
+    lines = [f"group all {' '.join(names[at : at + 14])}\n" for at in range(0, MOST_VERTICES, 14)]
+    lines += (f"group g{number} @all\n" for number in range(count))
+    return "".join(lines).encode()
+
+
 @dataclass(frozen=True)
 class Load:
     """A command with its texts, the files in which they stand, and the words behind these."""
@@ -205,6 +237,9 @@ def large_loads(files):
     yield load(files, "large", b"table", star(), further=[b"t", b"--workers", b"16"])
     yield load(files, "large", b"run", wide, events)
     yield load(files, "large", b"race", wide, events)
+    yield load(files, "large", b"who", star(), further=[b"tg", b"v1"])
+    yield load(files, "large", b"reach", star(), further=[b"v1"])
+    yield load(files, "large", b"verify", chain(), chain_policy(256, 2048, chance))
 
 
 @lru_cache

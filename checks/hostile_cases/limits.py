@@ -4,9 +4,9 @@ import random
 from dataclasses import replace
 from itertools import product
 
-from hostile_cases.commands import COMMANDS, GRAPH, MIB, SECOND, all_loads, ending_for, load
-from hostile_cases.commands import title_of, words_for
-from hostile_cases.runs import Case, Hindrance, Lawful, Says
+from hostile_cases.commands import COMMANDS, GRAPH, MIB, SECOND, all_loads, ending_for
+from hostile_cases.commands import groups_of_all, load, long_names, title_of, words_for
+from hostile_cases.runs import Case, Hindrance, Lawful, Says, Whole
 from races import script, sparse
 
 SOME_MEMORY = (4, 8, 12, 16, 24, 32, 64, 128, 256, 512)
@@ -60,6 +60,17 @@ def large_second_cases(files):
         words = [command, files.path("graph"), files.path("line_feeds")]
         title = f"{title_of(command)}: a second file of 64 MiB"
         yield memory_case(title, memory, words, [Says("memory")])
+
+
+def group_cases(files):
+    """A policy of little more than a MB whose groups have 266 million members, and a smaller one."""
+    graph, kept = files.text("group_graph", long_names()), Whole(b"kept\n", 0)
+    for count, limits in {65_000: (16, 64, 256), 256: (64, AMPLE_MEMORY)}.items():
+        words = [b"verify", graph, files.text(f"{count}_groups", groups_of_all(count))]
+        title = f"verify: {count:,} groups of all vertices"
+        for memory in limits:
+            allowed = [kept] if memory == AMPLE_MEMORY else [kept, Says("memory")]
+            yield memory_case(title, memory, words, allowed)
 
 
 def thread_cases(files):

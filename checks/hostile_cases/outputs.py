@@ -46,10 +46,12 @@ def refusal_cases(files):
 
 def empty_report_cases(files):
     """Reports without a byte, to outputs that take nothing: they are whole all the same."""
-    commands = (b"check", b"islands", b"table")
-    for command, (title, output) in product(commands, TAKING_NOTHING.items()):
+    empty, no_edges = files.path("empty"), files.text("no_edges", b"vertex a\nvertex c\n")
+    graphs = dict.fromkeys((b"check", b"islands", b"table"), empty)
+    graphs |= dict.fromkeys((b"who", b"reach"), no_edges)
+    for (command, graph), (title, output) in product(graphs.items(), TAKING_NOTHING.items()):
         name = f"{title_of(command)}: an empty report to {title}"
-        words, hindrance = words_for(command, files.path("empty")), Hindrance(output=output)
+        words, hindrance = words_for(command, graph), Hindrance(output=output)
         yield Case(name, words, [Whole(b"", 0)], hindrance)
 
 

@@ -16,12 +16,24 @@ table G r --worker 4|table G r -workers 4|table G --workers 4 r|--help|G|table G
 table G r --workers 12345|table G r --workers -1|table G r --workers +1|table G r --workers x
 table G r --workers 4x|table G r --workers 0x4|table G r --workers 1.0|table G r --workers \u0664
 table G r --workers ''|table G r --workers ' 4'|'check ' G|''|'' ''|'' check G|check G ''
+who|who G|who G r|who G r a c|who r a|reach|reach G|reach G a c|reach a|reach G r a|verify|verify G
+verify G G G|verify G G -why|verify G G --Why|verify G G --why=|verify G G ''|verify G G --why --why
+verify G --why G|verify --why G G|verify G G --workers 4|who G r a --why|verify G G --wh\u0443
 """
 # What stands behind the graph of a question, good or bad.
 QUESTIONS = """
 q a c|'' a c|rw A z|r '' c|r a z|r z A|r z y|r a \u00e9|R a c|- a c|r abcdefghijklmnop c
 r abcdefghijklmnopq c|r 9a c|a a c|d a c|ad a c|A a c|rw a c|wr a c|tgrwead a c|rwr a c|-r a c
 -- a c|- a z|tgrweadt a c
+"""
+# What stands behind the graph where somebody is looked for, good or bad.
+LOOKUPS = """
+r c|q c|'' c|- c|rw A|r ''|r z|r \u00e9|R c|a c|A c|tg c|gt c|tgrwead c|rwr c|-r c|-- c|- z|q z|q A
+r abcdefghijklmnop|r abcdefghijklmnopq|r 9a|r @c|r c@
+"""
+# What stands behind the graph where it is asked what a vertex can come to, good or bad.
+VERTICES = """
+a|b|c|d|A|''|z|\u00e9|abcdefghijklmnop|abcdefghijklmnopq|9a|@a|-|r
 """
 # What stands behind the graph of a table, good or bad.
 TABLES = """
@@ -60,12 +72,25 @@ def question_cases(files):
     graph = files.path("graph")
     long_words = [QUESTION[:i] + [LONG_WORD] + QUESTION[i + 1 :] for i in range(len(QUESTION))]
     questions = [*lines_in(QUESTIONS)] + [(f"long {i}", it) for i, it in enumerate(long_words)]
-    tables = [*lines_in(TABLES), ("long", [LONG_WORD])]
-    cases = [*product((b"share", b"derive"), questions), *product([b"table"], tables)]
+    one_long = ("long", [LONG_WORD])
+    cases = [
+        *product((b"share", b"derive"), questions),
+        *product([b"who"], [*lines_in(LOOKUPS), ("long", [b"r", LONG_WORD])]),
+        *product([b"reach"], [*lines_in(VERTICES), one_long]),
+        *product([b"table"], [*lines_in(TABLES), one_long]),
+    ]
     for command, (line, further) in cases:
         ending = ending_for(command, GRAPH, further=further)
         title = f"words: {title_of(command)} G {line}"
         yield Case(title, [command, graph, *further], [ending])
+
+
+def option_path_cases(files):
+    """An option that stands where a file is named is that file's name."""
+    graph = files.path("graph")
+    causes = {(graph, b"--why"): "second file", (b"--why", graph): "graph"}
+    for paths, cause in causes.items():
+        yield Case(f"words: verify, and --why for the {cause}", [b"verify", *paths], [Says(cause)])
 
 
 def long_path_cases(files):

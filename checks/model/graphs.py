@@ -139,6 +139,16 @@ class Graph:
                 held[x].add(y)
         return [(island, set().union(*(held[x] for x in island))) for island in self.islands()]
 
+    def reach(self):
+        """Of each vertex the rights that it can come to have, by the vertex that they are over."""
+        found = {}
+        for island in self.islands():
+            found.update(dict.fromkeys(island, {}))
+        for (x, y), rights in self.edges.items():
+            if rights:
+                found[x][y] = found[x].get(y, frozenset()) | rights
+        return found
+
     # derivations
 
     def chain(self, right, x, y):

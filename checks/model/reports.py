@@ -1,6 +1,9 @@
 """What the program prints for its words and texts, and with which status."""
 import re
+from functools import partial
 
+from model.graphs import letters_of
+from model.policies import first_break, read_policy
 from model.sessions import Hall
 from model.texts import TextFault, is_name, is_right, is_rights
 from model.texts import parts_of, read_graph, read_rules, read_script
@@ -17,8 +20,11 @@ WORD_COUNTS = {
     b"table": (3, 5),
     b"share": (5,),
     b"derive": (5,),
+    b"who": (4,),
+    b"reach": (3,),
+    b"verify": (3, 4),
 }
-WITH_SECOND_FILE = (b"apply", b"run", b"race")
+WITH_SECOND_FILE = (b"apply", b"run", b"race", b"verify")
 
 
 class Refused(Exception):
@@ -31,6 +37,8 @@ def is_call(words):
         return True
     if len(words) not in WORD_COUNTS.get(words[0], ()) or not all(map(is_utf8, words)):
         return False
+    if words[0] == b"verify":
+        return words[3:] in ([], [b"--why"])
     if words[0] != b"table" or len(words) == 3:
         return True
     return words[3] == b"--workers" and WORKERS.fullmatch(words[4]) is not None
@@ -60,16 +68,22 @@ def right_in(word, test=is_right):
     return word.decode()
 
 
-def question_in(text, rights, x, y):
-    """The graph, rights and two vertices of a question."""
-    graph = read(read_graph, "graph", text)
-    rights = set(right_in(rights, is_rights)) - {"-"}
-    if not is_name(x) or not is_name(y):
+def vertices_in(graph, words):
+    """The vertices of a graph that words name."""
+    if not all(map(is_name, words)):
         raise Refused("bad-name")
-    for name in (x.decode(), y.decode()):
+    names = [word.decode() for word in words]
+    for name in names:
         if name not in graph.names:
             raise Refused(f"unknown {name}")
-    return graph, rights, x.decode(), y.decode()
+    return names
+
+
+def question_in(text, rights, *words):
+    """The graph, rights and vertices of a question."""
+    graph = read(read_graph, "graph", text)
+    rights = set(right_in(rights, is_rights)) - {"-"}
+    return graph, rights, *vertices_in(graph, words)
 
 
 def check(text):
@@ -89,13 +103,48 @@ def share(text, *words):
     return "yes\n" if graph.can_share(*question) else "no\n", 0
 
 
+def derived(graph, rights, x, y):
+    """The lines of a derivation on a graph."""
+    rules = graph.derivation(rights, x, y)
+    if rules is None:
+        return "# no\n"
+    return f"# yes {len(rules)}\n" + "".join(rule + "\n" for rule in rules)
+
+
 def derive(text, *words):
     """The report of `derive`."""
-    graph, *question = question_in(text, *words)
-    rules = graph.derivation(*question)
-    if rules is None:
-        return "# no\n", 0
-    return f"# yes {len(rules)}\n" + "".join(rule + "\n" for rule in rules), 0
+    return derived(*question_in(text, *words)), 0
+
+
+def who(text, *words):
+    """The report of `who`."""
+    graph, rights, y = question_in(text, *words)
+    found = graph.reach()
+    names = [x for x in sorted(graph.names) if rights <= found[x].get(y, set())]
+    return "".join(name + "\n" for name in names), 0
+
+
+def reach(text, word):
+    """The report of `reach`."""
+    graph = read(read_graph, "graph", text)
+    (x,) = vertices_in(graph, [word])
+    found = sorted(graph.reach()[x].items())
+    return "".join(f"{y} {letters_of(rights)}\n" for y, rights in found), 0
+
+
+def verify(text, policy_text, why=None):
+    """The report of `verify`."""
+    graph = read(read_graph, "graph", text)
+    policy = read(partial(read_policy, graph), "policy", policy_text)
+    found, lines, broken = graph.reach(), [], 0
+    for claim in policy:
+        fault = first_break(claim, found)
+        lines.append(f"{claim.line} {'fails ' + ' '.join(fault) if fault else 'holds'}\n")
+        broken += fault is not None
+        if fault and why and claim.word != "may":
+            lines.append(derived(graph, *fault))
+    lines.append(f"broken {broken}\n" if broken else "kept\n")
+    return "".join(lines), 1 if broken else 0
 
 
 def table(text, right, _="--workers", workers=b"4"):
@@ -150,6 +199,9 @@ REPORTS = {
     b"table": table,
     b"share": share,
     b"derive": derive,
+    b"who": who,
+    b"reach": reach,
+    b"verify": verify,
 }
 
 

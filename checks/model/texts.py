@@ -1,4 +1,4 @@
-"""The three texts: lines and words, and the value or the first fault of each text."""
+"""The graph, rules and script texts: lines and words, and the value or first fault of each."""
 import re
 from dataclasses import dataclass, field
 
