@@ -1,14 +1,12 @@
 -- One line of a policy more that is told.
-use Rattle.std.proofs.Common.{◌≡◌, ℕ, ◌+◌, ◌≤◌, Bool, true, false, cond, ◌||◌, ◌&&◌, not, List, [], ◌∷◌, ◌++◌, Option, Some, None, length, length-append, take, get_or, slice_get, option_map, All, bytes_eq, refl, sym, ap, subst, ◌∙◌, arith, true≢false, inl, inr, ◌⊎◌, append_assoc}
+use Rattle.std.proofs.Common.{◌≡◌, ℕ, zero, suc, ◌+◌, ◌≤◌, Bool, true, false, cond, ◌||◌, ◌&&◌, not, List, [], ◌∷◌, ◌++◌, Option, Some, None, length, length-append, take, get_or, slice_get, option_map, All, bytes_eq, refl, sym, ap, subst, ◌∙◌, arith, true≢false, inl, inr, ◌⊎◌, append_assoc}
 use Rattle.std.specs.Prelude.{is_some, codes, decimal}
 use Rattle.std.specs.List.{list_any}
-use Rattle.std.proofs.lemmas.Bool.{or_cases, and_parts}
 use Rattle.std.proofs.lemmas.List.{append-nil, take_more, map-append}
 use Rattle.std.proofs.lemmas.List.Folds.{list_any_none}
 use Rattle.std.proofs.lemmas.Option.{slice_get_within, slice_get-map, get_or_from_slice_get}
 use Rattle.tg_graph.specs.Letters.{letter_of}
 use Rattle.tg_graph.specs.Graphs.{Name, same_name, ProtectionGraph, has_vertex}
-use Rattle.tg_graph.proofs.Rows.{same_bytes}
 use Rattle.tg_text.specs.declared.policy_text.Operand.{Operand}
 use Rattle.tg_text.specs.declared.policy_text.Operand.TheVariants as operand
 use Rattle.tg_text.specs.declared.policy_text.Claim.{Claim}
@@ -20,7 +18,7 @@ use Rattle.tg_analysis.specs.declared.cases.Case.{Case}
 use Rattle.officer.specs.declared.groups.Groups.{Groups}
 use Rattle.officer.specs.declared.verdicts.Verdicts.{Verdicts}
 use Rattle.officer.specs.Policies.{Membership, no_members, stands_for, some_stands_for, members_after, members_behind, Finding, IsVerdict, IsFinding, AreFindings, IsWhy, verdict_line, told_of, told_of_all, broken_count}
-use Rattle.officer.specs.PolicyParts.{membership, AreOfVertices, HasTold, IsToldOf}
+use Rattle.officer.specs.PolicyParts.{HasTold, IsToldOf, members_in}
 use Rattle.officer.proofs.VerdictLaws.{behind-more, findings-more, told-more, count-more}
 
 -- ---- whom operands stand for
@@ -29,24 +27,17 @@ or_neither false false h = (refl, refl)
 or_neither false true h = absurd (true≢false h)
 or_neither true b h = absurd (true≢false h)
 
-not_false : (b : Bool) → not b ≡ false → b ≡ true
+pub not_false : (b : Bool) → not b ≡ false → b ≡ true
 not_false true h = refl
 not_false false h = absurd (true≢false h)
 
-module _ (g : ProtectionGraph) (in_group : Membership) (of : AreOfVertices g in_group) (v : Name) where
-  pub stands-vertex : (one : Operand) → lacks_vertex g one ≡ false → stands_for in_group v one ≡ true → has_vertex g v ≡ true
-  stands-vertex (operand.Vertex w) known h = ap (has_vertex g) (same_bytes v w h) ∙ not_false (has_vertex g w) known
-  stands-vertex (operand.Group n) known h = of n v h
-
-  pub some-vertex : (operands : List Operand) → list_any (lacks_vertex g) operands ≡ false → some_stands_for in_group operands v ≡ true → has_vertex g v ≡ true
-  some-vertex [] known h = absurd (true≢false (sym h))
-  some-vertex (one ∷ operands) known h =
-      let both = or_neither (lacks_vertex g one) (list_any (lacks_vertex g) operands) known in
-      by both.0 (some-vertex operands both.1) (or_cases (stands_for in_group v one) (some_stands_for in_group operands v) h)
-    where
-      by : lacks_vertex g one ≡ false → (some_stands_for in_group operands v ≡ true → has_vertex g v ≡ true) → (stands_for in_group v one ≡ true) ⊎ (some_stands_for in_group operands v ≡ true) → has_vertex g v ≡ true
-      by here rest (inl s) = stands-vertex one here s
-      by here rest (inr s) = rest s
+-- what none passes none of them does
+pub none-passes : {A : Type 0} (test : A → Bool) (xs : List A) → list_any test xs ≡ false → (i : ℕ) (x : A) → slice_get xs i ≡ Some x → test x ≡ false
+none-passes test [] none i x at = absurd cc
+none-passes test (y ∷ ys) none zero x at =
+    let same : y ≡ x = cc in
+    ap test (sym same) ∙ (or_neither (test y) (list_any test ys) none).0
+none-passes test (y ∷ ys) none (suc i) x at = none-passes test ys (or_neither (test y) (list_any test ys) none).1 i x at
 
 -- ---- a line that makes no group
 abbrev pub IsNoGroup : Claim → Type 0
@@ -76,7 +67,7 @@ no-why g (claim.Only s) None = refl
 no-why g (claim.Only s) (Some b) = refl
 
 -- a verdict, and what stands below it
-pub told-why : (why : Bool) (g : ProtectionGraph) (line : PolicyLineOf) (old now : Verdicts) (verdict : Option Case) (text more : List ℕ) → IsVerdict g (membership old.groups) line.claim line.operands verdict → text ≡ old.text.items ++ verdict_line line.line verdict → IsWhy why g line.claim verdict more → now.text.items ≡ text ++ more → now.groups ≡ old.groups → now.broken ≡ old.broken + cond (is_some verdict) 1 0 → IsToldOf why g line old now
+pub told-why : (why : Bool) (g : ProtectionGraph) (line : PolicyLineOf) (old now : Verdicts) (verdict : Option Case) (text more : List ℕ) → IsVerdict g (members_in g old.groups) line.claim line.operands verdict → text ≡ old.text.items ++ verdict_line line.line verdict → IsWhy why g line.claim verdict more → now.text.items ≡ text ++ more → now.groups ≡ old.groups → now.broken ≡ old.broken + cond (is_some verdict) 1 0 → IsToldOf why g line old now
 told-why why g line old now verdict text more is first below all groups broken = record {
   found = record { verdict = verdict; why = more };
   finding = record { verdict = is; why = below };
@@ -109,7 +100,7 @@ group-finding why g in_group line n is = subst (λ says. IsFinding why g in_grou
 -- ---- one line more
 module _ (why : Bool) (g : ProtectionGraph) (lines : List PolicyLineOf) (old new : Verdicts) (line : PolicyLineOf) (told : HasTold why g lines old) where
   -- the groups so far are those of the lines
-  same : membership old.groups ≡ members_behind no_members lines
+  same : members_in g old.groups ≡ members_behind no_members lines
   same = λ i n v. told.groups n v i
 
   pub told-claim : IsNoGroup line.claim → IsToldOf why g line old new → HasTold why g (lines ++ line ∷ []) new
@@ -128,8 +119,7 @@ module _ (why : Bool) (g : ProtectionGraph) (lines : List PolicyLineOf) (old new
             ∙ sym texts;
         broken = is.broken ∙ ap (λ n. n + cond (is_some last.verdict) 1 0) told.broken ∙ sym counts;
         few = few;
-        groups = λ n v. ap (λ (m : Groups). membership m n v) is.groups ∙ told.groups n v ∙ ap (λ (m : Membership). m n v) (sym (members-stay (members_behind no_members lines) line.claim line.operands other) ∙ sym (behind-more no_members lines line));
-        vertices = subst (λ (m : Groups). AreOfVertices g (membership m)) (sym is.groups) told.vertices;
+        groups = λ n v. ap (λ (m : Groups). members_in g m n v) is.groups ∙ told.groups n v ∙ ap (λ (m : Membership). m n v) (sym (members-stay (members_behind no_members lines) line.claim line.operands other) ∙ sym (behind-more no_members lines line));
       }
     where
       one_most : (b : Bool) → cond b 1 0 ≤ 1
@@ -139,19 +129,12 @@ module _ (why : Bool) (g : ProtectionGraph) (lines : List PolicyLineOf) (old new
       few : new.broken ≤ length (lines ++ line ∷ [])
       few = omega (arith, is.broken, told.few, one_most (is_some is.found.verdict), length-append lines (line ∷ []))
 
-  -- a line that makes a group, which these names join
-  module _ (group : Name) (names : List Name) (makes : line.claim ≡ claim.Group group) (named : (v : Name) → list_any (bytes_eq v) names ≡ some_stands_for (membership old.groups) line.operands v) (joined : (n v : Name) → membership new.groups n v ≡ (membership old.groups n v || (same_name n group && list_any (bytes_eq v) names))) (text : new.text.items ≡ old.text.items) (broken : new.broken ≡ old.broken) (known : list_any (lacks_vertex g) line.operands ≡ false) where
-    vertices : AreOfVertices g (membership new.groups)
-    vertices n v h = by (or_cases (membership old.groups n v) (same_name n group && list_any (bytes_eq v) names) (sym (joined n v) ∙ h))
-      where
-        by : (membership old.groups n v ≡ true) ⊎ ((same_name n group && list_any (bytes_eq v) names) ≡ true) → has_vertex g v ≡ true
-        by (inl before) = told.vertices n v before
-        by (inr both) = some-vertex g (membership old.groups) told.vertices v line.operands known (sym (named v) ∙ (and_parts (same_name n group) (list_any (bytes_eq v) names) both).1)
-
-    groups : (n v : Name) → membership new.groups n v ≡ members_behind no_members (lines ++ line ∷ []) n v
+  -- a line that makes a group, which those who are marked join
+  module _ (group : Name) (is_marked : Name → Bool) (makes : line.claim ≡ claim.Group group) (marked : (v : Name) → is_marked v ≡ some_stands_for (members_in g old.groups) line.operands v) (joined : (n v : Name) → members_in g new.groups n v ≡ (members_in g old.groups n v || (same_name n group && is_marked v))) (text : new.text.items ≡ old.text.items) (broken : new.broken ≡ old.broken) where
+    groups : (n v : Name) → members_in g new.groups n v ≡ members_behind no_members (lines ++ line ∷ []) n v
     groups n v =
         joined n v
-        ∙ ap (λ b. membership old.groups n v || (same_name n group && b)) (named v)
+        ∙ ap (λ b. members_in g old.groups n v || (same_name n group && b)) (marked v)
         ∙ ap (λ (m : Membership). members_after m (claim.Group group) line.operands n v) same
         ∙ ap (λ (says : Claim). members_after (members_behind no_members lines) says line.operands n v) (sym makes)
         ∙ ap (λ (m : Membership). m n v) (sym (behind-more no_members lines line))
@@ -175,7 +158,6 @@ module _ (why : Bool) (g : ProtectionGraph) (lines : List PolicyLineOf) (old new
           broken = omega (arith, broken, told.broken, counts);
           few = omega (arith, broken, told.few, length-append lines (line ∷ []));
           groups = groups;
-          vertices = vertices;
         }
 
 -- ---- lines of a policy

@@ -8,10 +8,9 @@ ghost use Rattle.tg_graph.specs.Limits.{most_vertices};
 ghost use Rattle.tg_graph.specs.RuleLists.{CanShare};
 ghost use Rattle.tg_text.specs.Canonical.{in_name_order};
 ghost use Rattle.tg_text.specs.PolicyText.{PolicyLineOf, line_of_policy, lacks_vertex};
-ghost use Rattle.tg_analysis.specs.Cases.{IsCaseIndexOf};
 ghost use Rattle.tg_analysis.specs.Derivations.{IsDerivation};
 ghost use Rattle.officer.specs.Policies.{IsVerdict, IsWhy, verdict_line};
-ghost use Rattle.officer.specs.PolicyParts.{membership, AreOfVertices, NamesVertices, IsShared, IsToldOf, HasTold};
+ghost use Rattle.officer.specs.PolicyParts.{membership, NamesVertices, IsShared, IsToldOf, HasTold};
 
 use crate::groups::Groups;
 use crate::sharing::append_derivation;
@@ -32,76 +31,71 @@ pub(crate) struct Verdicts {
     pub broken: usize,
 }
 
-// What breaks a line that starts with `never` first, if something does.
+// What breaks a line that starts with `never` first, if something does. The names of the index are its vertices
+// in name order.
 fn never_break(
     alloc: Global,
-    graph: &Graph,
     index: &CaseIndex,
     groups: &Groups,
     rights: Rights,
     operands: (Operand, Operand),
 ) -> Result<Option<Case>, AllocError>
-    requires index { IsCaseIndexOf graph.now index.now }
-    requires groups { AreOfVertices (graph_of graph.now) (membership groups.now) }
-    requires first { lacks_vertex (graph_of graph.now) operands.0 ≡ false }
-    requires second { lacks_vertex (graph_of graph.now) operands.1 ≡ false }
+    requires names { index.now.names ≡ in_name_order (graph_of index.now.graph).vertices }
+    requires first { lacks_vertex (graph_of index.now.graph) operands.0 ≡ false }
+    requires second { lacks_vertex (graph_of index.now.graph) operands.1 ≡ false }
     ensures verdict { IfOk result (λ verdict.
-        IsVerdict (graph_of graph.now) (membership groups.now) (claim.Never rights)
+        IsVerdict (graph_of index.now.graph) (membership index.now.names groups.now) (claim.Never rights)
         (operands.0 ∷ operands.1 ∷ []) verdict) }
-    ensures vertices { IfOk result (NamesVertices (graph_of graph.now)) }
+    ensures vertices { IfOk result (NamesVertices (graph_of index.now.graph)) }
 {
-    let xs = groups.names_of(alloc, operands.0)?;
-    let ys = groups.names_of(alloc, operands.1)?;
-    let found = index.first_shared(alloc, graph, rights, &xs, &ys)?;
+    let xs = groups.places_of(alloc, index.names(), operands.0)?;
+    let ys = groups.places_of(alloc, index.names(), operands.1)?;
+    let found = index.first_shared(alloc, rights, &xs, &ys)?;
     Ok(found)
 }
 
 // The same of `may`.
 fn may_break(
     alloc: Global,
-    graph: &Graph,
     index: &CaseIndex,
     groups: &Groups,
     rights: Rights,
     operands: (Operand, Operand),
 ) -> Result<Option<Case>, AllocError>
-    requires index { IsCaseIndexOf graph.now index.now }
-    requires groups { AreOfVertices (graph_of graph.now) (membership groups.now) }
-    requires first { lacks_vertex (graph_of graph.now) operands.0 ≡ false }
-    requires second { lacks_vertex (graph_of graph.now) operands.1 ≡ false }
+    requires names { index.now.names ≡ in_name_order (graph_of index.now.graph).vertices }
+    requires first { lacks_vertex (graph_of index.now.graph) operands.0 ≡ false }
+    requires second { lacks_vertex (graph_of index.now.graph) operands.1 ≡ false }
     ensures verdict { IfOk result (λ verdict.
-        IsVerdict (graph_of graph.now) (membership groups.now) (claim.May rights)
+        IsVerdict (graph_of index.now.graph) (membership index.now.names groups.now) (claim.May rights)
         (operands.0 ∷ operands.1 ∷ []) verdict) }
-    ensures vertices { IfOk result (NamesVertices (graph_of graph.now)) }
+    ensures vertices { IfOk result (NamesVertices (graph_of index.now.graph)) }
 {
-    let xs = groups.names_of(alloc, operands.0)?;
-    let ys = groups.names_of(alloc, operands.1)?;
-    let found = index.first_unshared(alloc, graph, rights, &xs, &ys)?;
+    let xs = groups.places_of(alloc, index.names(), operands.0)?;
+    let ys = groups.places_of(alloc, index.names(), operands.1)?;
+    let found = index.first_unshared(alloc, rights, &xs, &ys)?;
     Ok(found)
 }
 
-// The same of `only`. The names of the index are in name order.
+// The same of `only`.
 fn only_break(
     alloc: Global,
-    graph: &Graph,
     index: &CaseIndex,
     groups: &Groups,
     rights: Rights,
     targets: Operand,
     others: &[Operand],
 ) -> Result<Option<Case>, AllocError>
-    requires index { IsCaseIndexOf graph.now index.now }
-    requires names { index.now.names ≡ in_name_order (graph_of graph.now).vertices }
-    requires groups { AreOfVertices (graph_of graph.now) (membership groups.now) }
-    requires targets { lacks_vertex (graph_of graph.now) targets ≡ false }
+    requires names { index.now.names ≡ in_name_order (graph_of index.now.graph).vertices }
+    requires targets { lacks_vertex (graph_of index.now.graph) targets ≡ false }
+    requires others { list_any (lacks_vertex (graph_of index.now.graph)) others.now ≡ false }
     ensures verdict { IfOk result (λ verdict.
-        IsVerdict (graph_of graph.now) (membership groups.now) (claim.Only rights)
+        IsVerdict (graph_of index.now.graph) (membership index.now.names groups.now) (claim.Only rights)
         (targets ∷ others.now) verdict) }
-    ensures vertices { IfOk result (NamesVertices (graph_of graph.now)) }
+    ensures vertices { IfOk result (NamesVertices (graph_of index.now.graph)) }
 {
-    let ys = groups.names_of(alloc, targets)?;
-    let allowed = groups.names_of_all(alloc, others)?;
-    let found = index.first_beyond(alloc, graph, rights, &ys, &allowed)?;
+    let ys = groups.places_of(alloc, index.names(), targets)?;
+    let allowed = groups.marks_of(alloc, index.names(), others)?;
+    let found = index.first_beyond(alloc, rights, &ys, &allowed)?;
     Ok(found)
 }
 
@@ -116,36 +110,32 @@ fn two(operands: &[Operand]) -> Option<(Operand, Operand)>
     Some((operands[0], operands[1]))
 }
 
-// What breaks a line first, if something does. The names of the index are in name order.
+// What breaks a line first, if something does.
 fn first_break(
     alloc: Global,
-    graph: &Graph,
     index: &CaseIndex,
     groups: &Groups,
     line: &PolicyLine,
 ) -> Result<Option<Case>, AllocError>
-    requires index { IsCaseIndexOf graph.now index.now }
-    requires names { index.now.names ≡ in_name_order (graph_of graph.now).vertices }
-    requires groups { AreOfVertices (graph_of graph.now) (membership groups.now) }
-    requires known { list_any (lacks_vertex (graph_of graph.now)) line.now.operands.items ≡ false }
+    requires names { index.now.names ≡ in_name_order (graph_of index.now.graph).vertices }
+    requires known { list_any (lacks_vertex (graph_of index.now.graph)) line.now.operands.items
+        ≡ false }
     ensures verdict { IfOk result (λ verdict.
-        IsVerdict (graph_of graph.now) (membership groups.now) line.now.claim
+        IsVerdict (graph_of index.now.graph) (membership index.now.names groups.now) line.now.claim
         line.now.operands.items verdict) }
-    ensures vertices { IfOk result (NamesVertices (graph_of graph.now)) }
+    ensures vertices { IfOk result (NamesVertices (graph_of index.now.graph)) }
 {
     match line.claim {
         Claim::Never(rights) => match two(&line.operands) {
-            Some(both) => never_break(alloc, graph, index, groups, rights, both),
+            Some(both) => never_break(alloc, index, groups, rights, both),
             None => Ok(None),
         },
         Claim::May(rights) => match two(&line.operands) {
-            Some(both) => may_break(alloc, graph, index, groups, rights, both),
+            Some(both) => may_break(alloc, index, groups, rights, both),
             None => Ok(None),
         },
         Claim::Only(rights) => match line.operands.as_slice() {
-            [targets, others @ ..] => {
-                only_break(alloc, graph, index, groups, rights, *targets, others)
-            }
+            [targets, others @ ..] => { only_break(alloc, index, groups, rights, *targets, others) }
             [] => Ok(None),
         },
         Claim::Group(_) => Ok(None),
@@ -232,16 +222,15 @@ impl Verdicts {
         why: bool,
     ) -> Result<(), AllocError>
         requires small { length (graph_of graph.now).vertices ≤ most_vertices }
-        requires index { IsCaseIndexOf graph.now index.now }
+        requires graph { index.now.graph ≡ graph.now }
         requires names { index.now.names ≡ in_name_order (graph_of graph.now).vertices }
         requires known { list_any (lacks_vertex (graph_of graph.now)) line.now.operands.items
             ≡ false }
-        requires groups { AreOfVertices (graph_of graph.now) (membership self.old.groups) }
         requires few { self.old.broken + 1 < 2 ^ 64 }
         ensures { OnOk result
             (IsToldOf why (graph_of graph.now) (line_of_policy line.now) self.old self.new) }
     {
-        let verdict = first_break(alloc, graph, index, &self.groups, line)?;
+        let verdict = first_break(alloc, index, &self.groups, line)?;
         append_verdict(&mut self.text, line.line, verdict)?;
         if why {
             append_why(alloc, &mut self.text, graph, line.claim, verdict)?;
@@ -263,19 +252,18 @@ impl Verdicts {
         why: bool,
     ) -> Result<(), AllocError>
         requires small { length (graph_of graph.now).vertices ≤ most_vertices }
-        requires index { IsCaseIndexOf graph.now index.now }
+        requires graph { index.now.graph ≡ graph.now }
         requires names { index.now.names ≡ in_name_order (graph_of graph.now).vertices }
         requires known { list_any (lacks_vertex (graph_of graph.now)) line.now.operands.items
             ≡ false }
-        requires groups { AreOfVertices (graph_of graph.now) (membership self.old.groups) }
         requires few { self.old.broken + 1 < 2 ^ 64 }
         ensures { OnOk result ((lines : List PolicyLineOf)
             → HasTold why (graph_of graph.now) lines self.old
             → HasTold why (graph_of graph.now) (lines ++ line_of_policy line.now ∷ []) self.new) }
     {
         if let Claim::Group(name) = line.claim {
-            let names = self.groups.names_of_all(alloc, &line.operands)?;
-            self.groups.join(alloc, name, &names)?;
+            let marks = self.groups.marks_of(alloc, index.names(), &line.operands)?;
+            self.groups.join(alloc, name, marks)?;
             return Ok(());
         }
         self.tell_claim(alloc, graph, index, line, why)?;

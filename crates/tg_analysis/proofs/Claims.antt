@@ -1,45 +1,36 @@
 -- What entries claim, the first places of numbers, and that the first spot is the first case.
-use Rattle.std.proofs.Common.{◌≡◌, ℕ, ◌<◌, ◌≤◌, ◌+◌, ◌^◌, ◌↔◌, Bool, true, false, List, [], ◌∷◌, ◌++◌, Option, Some, None, length, length-append, slice_get, get_or, bytes_eq, refl, sym, ap, subst, ◌∙◌, arith, lit<, true≢false, unwrap_or, is_some, ◌||◌, inl, inr, ◌⊎◌, IsTrue}
-use Rattle.std.specs.List.{position, list_any}
-use Rattle.std.specs.Map.{keys_of}
+use Rattle.std.proofs.Common.{◌≡◌, ℕ, ◌<◌, ◌≤◌, ◌+◌, true, false, List, [], ◌∷◌, ◌++◌, Option, Some, None, length, length-append, slice_get, get_or, bytes_eq, sym, ap, subst, ◌∙◌, arith, lit<, true≢false, unwrap_or, is_some, ◌||◌, inl, inr, ◌⊎◌, IsTrue}
+use Rattle.std.specs.List.{position}
 use Rattle.std.specs.Ordering.{nat_cmp, is_eq}
 use Rattle.std.specs.BTreeMap.{get, BTreeMap}
-use Rattle.std.proofs.lemmas.Bool.{cases_lt, cases_eq, cases_Bool, or_cases, or_left, or_right}
+use Rattle.std.proofs.lemmas.Bool.{cases_lt, cases_eq, or_cases, or_left, or_right}
 use Rattle.std.proofs.lemmas.Option.{slice_get-get_or, slice_get_within, option_and_then_some}
 use Rattle.tg_graph.specs.declared.right_sets.Right.{Right}
 use Rattle.tg_graph.specs.declared.right_sets.Rights.{Rights}
 use Rattle.tg_graph.specs.Sets.{member, nothing, bit_of, IsNamed}
-use Rattle.tg_graph.specs.Graphs.{Name, WellFormed}
-use Rattle.tg_graph.specs.GraphOf.{graph_of}
-use Rattle.tg_graph.specs.Rows.{Entries, IsGraph}
-use Rattle.tg_graph.specs.RuleLists.{CanShare}
-use Rattle.tg_graph.proofs.Positions.{at-position}
-use Rattle.tg_analysis.specs.declared.cases.Case.{Case}
+use Rattle.tg_graph.specs.Graphs.{Name}
 use Rattle.tg_analysis.specs.declared.cases.Claimed.{Claimed}
-use Rattle.tg_analysis.specs.declared.cases.Spot.{Spot}
 use Rattle.tg_analysis.specs.declared.held.Held.{Held}
-use Rattle.tg_analysis.specs.Sharing.{SharedExactly}
-use Rattle.tg_analysis.specs.Numbering.{AreIslands, AreCounted, number_of}
-use Rattle.tg_analysis.specs.ByTarget.{Listed, AreListed, Leads}
-use Rattle.tg_analysis.specs.Cases.{IsSooner, IsCase, FindsFirst, IsSoonest, sooner_of, IsFirstInBoth, CannotShare, CanShareBeyond, IsFirstBeyond, IsSaid, IsClaimOf, IsClaim, rights_under, JoinsUpTo, IsWithout, IsFirstWithout, IsClaimWithout, IsLackOf, AreNumbersOf, AreHeads}
-use Rattle.tg_analysis.proofs.ByTarget.{behind-is, behind-keeps, behind-last, index-exact}
+use Rattle.tg_analysis.specs.Numbering.{AreCounted, number_of}
+use Rattle.tg_analysis.specs.Cases.{AreHeads, AreNumbersOf, IsClaim, IsClaimOf, IsClaimWithout, IsFirstInBoth, IsFirstWithout, IsLackOf, IsSaid, IsSoonest, IsSooner, IsWithout, JoinsUpTo, place_at, rights_under, sooner_of}
+use Rattle.tg_analysis.proofs.ByTarget.{behind-is, behind-keeps, behind-last}
 use Rattle.tg_analysis.proofs.Reached.{nothing-has}
 use Rattle.tg_analysis.proofs.NumberKeys.{apart}
-use Rattle.tg_analysis.proofs.CaseOrder.{same_right, bit_below, soonest-two, soonest-same, IsFirstSpot}
+use Rattle.tg_analysis.proofs.CaseOrder.{same_right, bit_below, soonest-two, soonest-same}
 
 -- what a list is read to have behind its end
 abbrev pub no_entry : Held
 no_entry = record { number = 0; label = nothing }
 
 -- ---- the soonest claim of entries
-module _ (entry : Held) (places : BTreeMap ℕ ℕ) (rights : Rights) where
+module _ (entry : Held) (places : List (Option ℕ)) (rights : Rights) where
   pub claim-none : IsFirstInBoth entry.label rights None → IsSoonest (IsClaimOf entry places rights) None
   claim-none none = λ right place c. none right (c.held, c.asked)
 
-  pub claim-nowhere : get nat_cmp places entry.number ≡ None → IsSoonest (IsClaimOf entry places rights) None
+  pub claim-nowhere : place_at places entry.number ≡ None → IsSoonest (IsClaimOf entry places rights) None
   claim-nowhere none = λ right place c. absurd (let stands = c.stands in cc)
 
-  pub claim-some : (right : Right) (place : ℕ) → IsFirstInBoth entry.label rights (Some right) → get nat_cmp places entry.number ≡ Some place → IsSoonest (IsClaimOf entry places rights) (Some (record { right = right; place = place }))
+  pub claim-some : (right : Right) (place : ℕ) → IsFirstInBoth entry.label rights (Some right) → place_at places entry.number ≡ Some place → IsSoonest (IsClaimOf entry places rights) (Some (record { right = right; place = place }))
   claim-some right place first stands = (record { held = first.0.0; asked = first.0.1; stands = stands }, λ other at c s. by other at c s)
     where
       by : (other : Right) (at : ℕ) → IsClaimOf entry places rights other at → IsSooner other at right place → ⊥
@@ -48,7 +39,7 @@ module _ (entry : Held) (places : BTreeMap ℕ ℕ) (rights : Rights) where
           let same : at ≡ place = (let there = c.stands in cc) in
           let low = b.1 in omega arith
 
-module _ (entries : List Held) (places : BTreeMap ℕ ℕ) (rights : Rights) where
+module _ (entries : List Held) (places : List (Option ℕ)) (rights : Rights) where
   pub no-claim : IsSoonest (IsClaim entries places rights 0) None
   no-claim = λ right place c. let low = c.low in omega arith
 
@@ -158,7 +149,7 @@ module _ (vertices : List Name) (islands : List ℕ) (names : List Name) where
 
 -- ---- first places
 module _ (numbers : List ℕ) where
-  pub heads-none : (places : BTreeMap ℕ ℕ) → ((q : ℕ) → get nat_cmp places q ≡ None) → AreHeads numbers 0 places []
+  pub heads-none : (places : List (Option ℕ)) → ((q : ℕ) → place_at places q ≡ None) → AreHeads numbers 0 places []
   heads-none places empty = record {
     stands = λ number place h. absurd (let none = empty number in cc);
     there = λ number place low h. absurd (omega arith);
@@ -168,11 +159,11 @@ module _ (numbers : List ℕ) where
     rising = λ s t a b l h k. absurd (let low = slice_get_within {A = ℕ} [] s a h in omega arith);
   }
 
-  module _ (position number : ℕ) (here : slice_get numbers position ≡ Some number) (places : BTreeMap ℕ ℕ) (order : List ℕ) (so_far : AreHeads numbers position places order) where
+  module _ (position number : ℕ) (here : slice_get numbers position ≡ Some number) (places : List (Option ℕ)) (order : List ℕ) (so_far : AreHeads numbers position places order) where
     number-is : (n place : ℕ) → place ≡ position → slice_get numbers place ≡ Some n → n ≡ number
     number-is n place is at = let there = sym (ap (slice_get numbers) is) ∙ at in cc
 
-    pub heads-known : (first : ℕ) → get nat_cmp places number ≡ Some first → AreHeads numbers (position + 1) places order
+    pub heads-known : (first : ℕ) → place_at places number ≡ Some first → AreHeads numbers (position + 1) places order
     heads-known first found = record {
       stands = λ n place h. let s = so_far.stands n place h in ((let low = s.0 in omega arith), s.1);
       there = λ n place low at. by n place low at (cases_lt place position);
@@ -182,14 +173,14 @@ module _ (numbers : List ℕ) where
       rising = so_far.rising;
     }
       where
-        by : (n place : ℕ) → place < position + 1 → slice_get numbers place ≡ Some n → (place < position) ⊎ (position ≤ place) → (head : ℕ) × (head ≤ place) × (get nat_cmp places n ≡ Some head)
+        by : (n place : ℕ) → place < position + 1 → slice_get numbers place ≡ Some n → (place < position) ⊎ (position ≤ place) → (head : ℕ) × (head ≤ place) × (place_at places n ≡ Some head)
         by n place low at (inl l) = so_far.there n place l at
         by n place low at (inr l) =
             let is : place ≡ position = omega arith in
             let before = (so_far.stands number first found).0 in
-            (first, omega arith, ap (get nat_cmp places) (number-is n place is at) ∙ found)
+            (first, omega arith, ap (place_at places) (number-is n place is at) ∙ found)
 
-    pub heads-new : (more : BTreeMap ℕ ℕ) (longer : List ℕ) → get nat_cmp places number ≡ None → get nat_cmp more number ≡ Some position → ((q : ℕ) → is_eq (nat_cmp number q) ≡ false → get nat_cmp more q ≡ get nat_cmp places q) → longer ≡ order ++ position ∷ [] → AreHeads numbers (position + 1) more longer
+    pub heads-new : (more : List (Option ℕ)) (longer : List ℕ) → place_at places number ≡ None → place_at more number ≡ Some position → ((q : ℕ) → (number ≡ q → ⊥) → place_at more q ≡ place_at places q) → longer ≡ order ++ position ∷ [] → AreHeads numbers (position + 1) more longer
     heads-new more longer absent new others is = record {
       stands = λ n place h. stands n place h (cases_eq number n);
       there = λ n place low at. there n place low at (cases_lt place position);
@@ -202,35 +193,35 @@ module _ (numbers : List ℕ) where
         longer-at : (t place : ℕ) → slice_get longer t ≡ Some place → slice_get (order ++ position ∷ []) t ≡ Some place
         longer-at t place h = subst (λ (l : List ℕ). slice_get l t ≡ Some place) is h
 
-        old : (n head : ℕ) → (number ≡ n → ⊥) → get nat_cmp more n ≡ Some head → get nat_cmp places n ≡ Some head
-        old n head other h = sym (others n (apart number n other)) ∙ h
+        old : (n head : ℕ) → (number ≡ n → ⊥) → place_at more n ≡ Some head → place_at places n ≡ Some head
+        old n head other h = sym (others n other) ∙ h
 
-        own : (n head : ℕ) → number ≡ n → get nat_cmp more n ≡ Some head → position ≡ head
-        own n head same h = let both = sym new ∙ ap (get nat_cmp more) same ∙ h in cc
+        own : (n head : ℕ) → number ≡ n → place_at more n ≡ Some head → position ≡ head
+        own n head same h = let both = sym new ∙ ap (place_at more) same ∙ h in cc
 
-        stands : (n place : ℕ) → get nat_cmp more n ≡ Some place → (number ≡ n) ⊎ (number ≡ n → ⊥) → (place < position + 1) × (slice_get numbers place ≡ Some n)
+        stands : (n place : ℕ) → place_at more n ≡ Some place → (number ≡ n) ⊎ (number ≡ n → ⊥) → (place < position + 1) × (slice_get numbers place ≡ Some n)
         stands n place h (inl same) =
             let at = own n place same h in
             (omega arith, sym (ap (slice_get numbers) at) ∙ here ∙ ap Some same)
         stands n place h (inr other) = let s = so_far.stands n place (old n place other h) in ((let low = s.0 in omega arith), s.1)
 
-        there : (n place : ℕ) → place < position + 1 → slice_get numbers place ≡ Some n → (place < position) ⊎ (position ≤ place) → (head : ℕ) × (head ≤ place) × (get nat_cmp more n ≡ Some head)
+        there : (n place : ℕ) → place < position + 1 → slice_get numbers place ≡ Some n → (place < position) ⊎ (position ≤ place) → (head : ℕ) × (head ≤ place) × (place_at more n ≡ Some head)
         there n place low at (inl l) = kept (so_far.there n place l at)
           where
-            kept : (head : ℕ) × (head ≤ place) × (get nat_cmp places n ≡ Some head) → (head : ℕ) × (head ≤ place) × (get nat_cmp more n ≡ Some head)
-            kept (head, most, found) = (head, most, others n (apart number n (λ same. absurd (let both = sym absent ∙ ap (get nat_cmp places) same ∙ found in cc))) ∙ found)
+            kept : (head : ℕ) × (head ≤ place) × (place_at places n ≡ Some head) → (head : ℕ) × (head ≤ place) × (place_at more n ≡ Some head)
+            kept (head, most, found) = (head, most, others n (λ same. absurd (let both = sym absent ∙ ap (place_at places) same ∙ found in cc)) ∙ found)
         there n place low at (inr l) =
             let same : place ≡ position = omega arith in
-            (position, omega arith, ap (get nat_cmp more) (number-is n place same at) ∙ new)
+            (position, omega arith, ap (place_at more) (number-is n place same at) ∙ new)
 
-        listed : (n head : ℕ) → get nat_cmp more n ≡ Some head → (number ≡ n) ⊎ (number ≡ n → ⊥) → (t : ℕ) × (slice_get longer t ≡ Some head)
+        listed : (n head : ℕ) → place_at more n ≡ Some head → (number ≡ n) ⊎ (number ≡ n → ⊥) → (t : ℕ) × (slice_get longer t ≡ Some head)
         listed n head h (inl same) = (length order, subst (λ (l : List ℕ). slice_get l (length order) ≡ Some head) (sym is) (behind-last ℕ order position ∙ ap Some (own n head same h)))
         listed n head h (inr other) = let t = so_far.listed n head (old n head other h) in (t.0, subst (λ (l : List ℕ). slice_get l t.0 ≡ Some head) (sym is) (behind-keeps ℕ order position t.0 head t.1))
 
-        kept : (head : ℕ) → (n : ℕ) × (get nat_cmp places n ≡ Some head) → (n : ℕ) × (get nat_cmp more n ≡ Some head)
-        kept head (n, found) = (n, others n (apart number n (λ same. absurd (let both = sym absent ∙ ap (get nat_cmp places) same ∙ found in cc))) ∙ found)
+        kept : (head : ℕ) → (n : ℕ) × (place_at places n ≡ Some head) → (n : ℕ) × (place_at more n ≡ Some head)
+        kept head (n, found) = (n, others n (λ same. absurd (let both = sym absent ∙ ap (place_at places) same ∙ found in cc)) ∙ found)
 
-        heads : (t place : ℕ) → (slice_get order t ≡ Some place) ⊎ ((t ≡ length order) × (place ≡ position)) → (n : ℕ) × (get nat_cmp more n ≡ Some place)
+        heads : (t place : ℕ) → (slice_get order t ≡ Some place) ⊎ ((t ≡ length order) × (place ≡ position)) → (n : ℕ) × (place_at more n ≡ Some place)
         heads t place (inl h) = kept place (so_far.heads t place h)
         heads t place (inr h) = (number, new ∙ ap Some (sym h.1))
 
@@ -244,190 +235,13 @@ module _ (numbers : List ℕ) where
         rising s t a b less (inr h) (inl k) at = absurd (let first = h.0 in let low = slice_get_within order t b k in omega arith)
         rising s t a b less (inr h) (inr k) at = absurd (let first = h.0 in let second = k.0 in omega arith)
 
--- ---- the first of cases
-sooner-before : (r s : Right) (first i k : ℕ) → first ≤ i → IsSooner r i s k → IsSooner r first s k
-sooner-before r s first i k low (inl h) = inl h
-sooner-before r s first i k low (inr h) = inr (h.0, (let less = h.1 in omega arith))
-
-module _ (es : Entries) (ok : IsGraph es) (well : WellFormed (graph_of es)) (shared : SharedExactly) (few : length (keys_of es) < 2 ^ 64) (islands : List ℕ) (are : AreIslands (graph_of es) islands) (list : Listed) (listed : AreListed es list) (rights : Rights) (xs ys : List Name) (numbers : List ℕ) (numbered : AreNumbersOf (keys_of es) islands xs (length xs) numbers) where
-  abbrev CanClaim : Right → Name → Name → Type 0
-  CanClaim right x y = CanShare (graph_of es) right x y
-
-  -- the number at the place of a name
-  number-at : (i : ℕ) (x : Name) → slice_get xs i ≡ Some x → slice_get numbers i ≡ Some (get_or numbers i 0)
-  number-at i x at = slice_get-get_or numbers i 0 (let low = slice_get_within xs i x at in omega (arith, numbered.len))
-
-  -- the name at the place of a number
-  name-at : (i n : ℕ) → slice_get numbers i ≡ Some n → slice_get xs i ≡ Some (get_or xs i [])
-  name-at i n at = slice_get-get_or xs i [] (let low = slice_get_within numbers i n at in omega (arith, numbered.len))
-
-  module _ (j target : ℕ) (y : Name) (at_y : slice_get ys j ≡ Some y) (there : slice_get (keys_of es) target ≡ Some y) (entries : List Held) (said : (right : Right) (number : ℕ) → IsSaid entries right number ↔ Leads islands right number target list) where
-    -- an island leads to y exactly where its vertices can come to have the right
-    leads-exact : (right : Right) (i n : ℕ) (x : Name) → slice_get xs i ≡ Some x → slice_get numbers i ≡ Some n → IsSaid entries right n ↔ CanShare (graph_of es) right x y
-    leads-exact right i n x at_x at = (λ h. exact.0 ((said right n).0 h), λ c. (said right n).1 (exact.1 c))
-      where
-        from : (place : ℕ) × (position (bytes_eq x) (keys_of es) ≡ Some place) × (slice_get islands place ≡ Some n)
-        from = option_and_then_some (λ place. slice_get islands place) (position (bytes_eq x) (keys_of es)) n (numbered.each i n x at at_x) (λ place p q. (place, p, q))
-
-        exact : Leads islands right n target list ↔ CanShare (graph_of es) right x y
-        exact = index-exact es ok well shared few islands are right from.0 target x y (at-position (keys_of es) x from.0 from.1) there n from.2 list listed
-
-    -- the soonest claim is the first case over y
-    module _ (places : BTreeMap ℕ ℕ) (order : List ℕ) (heads : AreHeads numbers (length numbers) places order) where
-      abbrev Claim : Right → ℕ → Type 0
-      Claim right place = IsClaim entries places rights (length entries) right place
-
-      abbrev OverY : Right → ℕ → Type 0
-      OverY right i = IsCase CanClaim rights xs ys right i j
-
-      -- of each case the island's first place is claimed
-      claimed : (right : Right) (i : ℕ) → OverY right i → (first : ℕ) × (first ≤ i) × Claim right first
-      claimed right i c =
-          let n = get_or numbers i 0 in
-          let at = number-at i c.x c.at_x in
-          let head = heads.there n i (slice_get_within numbers i n at) at in
-          let same : c.y ≡ y = (let first = c.at_y in cc) in
-          let s = (leads-exact right i n c.x c.at_x at).1 (subst (λ v. CanShare (graph_of es) right c.x v) same c.claimed) in (
-            head.0,
-            head.1,
-            record {
-              index = s.place;
-              low = slice_get_within entries s.place s.entry s.stands;
-              entry = s.entry;
-              stands = s.stands;
-              claim = record { held = s.held; asked = c.asked; stands = ap (get nat_cmp places) s.of ∙ head.2 };
-            },
-          )
-
-      -- what is claimed is a case
-      case_of : (right : Right) (place : ℕ) → Claim right place → OverY right place
-      case_of right place c =
-          let n = c.entry.number in
-          let at = (heads.stands n place c.claim.stands).1 in
-          let x = get_or xs place [] in
-          let at_x = name-at place n at in
-          record {
-            x = x;
-            y = y;
-            at_x = at_x;
-            at_y = at_y;
-            asked = c.claim.asked;
-            claimed = (leads-exact right place n x at_x at).0 (record { place = c.index; entry = c.entry; stands = c.stands; of = refl; held = c.claim.held });
-          }
-
-      pub shared-soonest : (next : Option Claimed) → IsSoonest (IsClaim entries places rights (length entries)) next → IsSoonest (λ right i. IsCase CanClaim rights xs ys right i j) next
-      shared-soonest None none = λ right i c. let first = claimed right i c in none right first.0 first.2
-      shared-soonest (Some next) found = (case_of next.right next.place found.0, λ right i c s. let first = claimed right i c in found.1 right first.0 first.2 (sooner-before right next.right first.0 i next.place first.1 s))
-
-    -- the soonest claim of those who are none of the allowed is the first case over y of those
-    module _ (allowed : List Name) (is_allowed : Name → Bool) (same : (v : Name) → is_allowed v ≡ list_any (bytes_eq v) allowed) (places : BTreeMap ℕ ℕ) (beyond : (place : ℕ) (entry : Held) → slice_get entries place ≡ Some entry → IsFirstBeyond numbers xs is_allowed entry.number (get nat_cmp places entry.number)) where
-      abbrev BeyondY : Right → ℕ → Type 0
-      BeyondY right i = IsCase (CanShareBeyond (graph_of es) allowed) rights xs ys right i j
-
-      -- of each case the first place of its island that is none of the allowed is claimed
-      beyond-claimed : (right : Right) (i : ℕ) → BeyondY right i → (first : ℕ) × (first ≤ i) × IsClaim entries places rights (length entries) right first
-      beyond-claimed right i c = by (get nat_cmp places s.entry.number) refl (beyond s.place s.entry s.stands)
-        where
-          n : ℕ
-          n = get_or numbers i 0
-
-          at : slice_get numbers i ≡ Some n
-          at = number-at i c.x c.at_x
-
-          s : IsSaid entries right n
-          s =
-              let is : c.y ≡ y = (let first = c.at_y in cc) in
-              (leads-exact right i n c.x c.at_x at).1 (subst (λ v. CanShare (graph_of es) right c.x v) is c.claimed.0)
-
-          here : slice_get numbers i ≡ Some s.entry.number
-          here = at ∙ ap Some (sym s.of)
-
-          not : is_allowed c.x ≡ true → ⊥
-          not held = true≢false (sym held ∙ (same c.x ∙ c.claimed.1))
-
-          by : (o : Option ℕ) → get nat_cmp places s.entry.number ≡ o → IsFirstBeyond numbers xs is_allowed s.entry.number o → (first : ℕ) × (first ≤ i) × IsClaim entries places rights (length entries) right first
-          by None e all = absurd (not (all i c.x here c.at_x))
-          by (Some first) e f = (
-            first,
-            low (cases_lt i first),
-            record {
-              index = s.place;
-              low = slice_get_within entries s.place s.entry s.stands;
-              entry = s.entry;
-              stands = s.stands;
-              claim = record { held = s.held; asked = c.asked; stands = e };
-            },
-          )
-            where
-              low : (i < first) ⊎ (first ≤ i) → first ≤ i
-              low (inl less) = absurd (not (f.2 i c.x less here c.at_x))
-              low (inr most) = most
-
-      beyond-case : (right : Right) (place : ℕ) → IsClaim entries places rights (length entries) right place → BeyondY right place
-      beyond-case right place c =
-          let n = c.entry.number in
-          let found = subst (IsFirstBeyond numbers xs is_allowed n) c.claim.stands (beyond c.index c.entry c.stands) in
-          let x = get_or xs place [] in
-          let at_x = name-at place n found.0 in
-          record {
-            x = x;
-            y = y;
-            at_x = at_x;
-            at_y = at_y;
-            asked = c.claim.asked;
-            claimed = ((leads-exact right place n x at_x found.0).0 (record { place = c.index; entry = c.entry; stands = c.stands; of = refl; held = c.claim.held }), sym (same x) ∙ found.1 x at_x);
-          }
-
-      pub beyond-soonest : (next : Option Claimed) → IsSoonest (IsClaim entries places rights (length entries)) next → IsSoonest (λ right i. IsCase (CanShareBeyond (graph_of es) allowed) rights xs ys right i j) next
-      beyond-soonest None none = λ right i c. let first = beyond-claimed right i c in none right first.0 first.2
-      beyond-soonest (Some next) found = (beyond-case next.right next.place found.0, λ right i c s. let first = beyond-claimed right i c in found.1 right first.0 first.2 (sooner-before right next.right first.0 i next.place first.1 s))
-
-    -- the soonest lack is the first case over y of those who can't
-    module _ (held : BTreeMap ℕ Rights) (joins : JoinsUpTo entries (length entries) held) where
-      abbrev CannotClaim : Right → Name → Name → Type 0
-      CannotClaim right x y = CannotShare (graph_of es) right x y
-
-      under-exact : (right : Right) (i n : ℕ) (x : Name) → slice_get xs i ≡ Some x → slice_get numbers i ≡ Some n → IsTrue (member (rights_under held n) right) ↔ CanShare (graph_of es) right x y
-      under-exact right i n x at_x at =
-          let exact = leads-exact right i n x at_x at in
-          let has = joins.members n right in (
-            λ m. let h = has.0 m in exact.0 (record { place = h.0; entry = h.2; stands = h.3; of = h.4; held = h.5 }),
-            λ c. let s = exact.1 c in has.1 (s.place, slice_get_within entries s.place s.entry s.stands, s.entry, s.stands, s.of, s.held),
-          )
-
-      case_without : (right : Right) (i : ℕ) → IsLackOf held numbers rights right i → IsCase CannotClaim rights xs ys right i j
-      case_without right i lack =
-          let at_x = name-at i lack.number lack.stands in
-          record {
-            x = get_or xs i [];
-            y = y;
-            at_x = at_x;
-            at_y = at_y;
-            asked = lack.asked;
-            claimed = λ can. true≢false (sym ((under-exact right i lack.number (get_or xs i []) at_x lack.stands).1 can) ∙ lack.lacks);
-          }
-
-      lack_of : (right : Right) (i : ℕ) → IsCase CannotClaim rights xs ys right i j → IsLackOf held numbers rights right i
-      lack_of right i c =
-          let n = get_or numbers i 0 in
-          let at = number-at i c.x c.at_x in
-          let same : c.y ≡ y = (let first = c.at_y in cc) in
-          record { number = n; stands = at; asked = c.asked; lacks = lacks n at same (cases_Bool (member (rights_under held n) right)) }
-        where
-          lacks : (n : ℕ) → slice_get numbers i ≡ Some n → c.y ≡ y → (IsTrue (member (rights_under held n) right)) ⊎ (member (rights_under held n) right ≡ false) → member (rights_under held n) right ≡ false
-          lacks n at same (inl m) = absurd (c.claimed (subst (λ v. CanShare (graph_of es) right c.x v) (sym same) ((under-exact right i n c.x c.at_x at).0 m)))
-          lacks n at same (inr e) = e
-
-      pub unshared-soonest : (next : Option Claimed) → IsSoonest (IsLackOf held numbers rights) next → IsSoonest (λ right i. IsCase CannotClaim rights xs ys right i j) next
-      unshared-soonest next found = soonest-same (IsLackOf held numbers rights) (λ right i. IsCase CannotClaim rights xs ys right i j) case_without lack_of next found
-
 -- ---- the first place of an island that lacks a right
-module _ (held : BTreeMap ℕ Rights) (numbers places : List ℕ) (right : Right) where
+module _ (entries : List Held) (numbers places : List ℕ) (right : Right) where
   -- none of the first so many places is of an island that lacks the right
   abbrev pub NoneWithout : ℕ → Type 0
-  NoneWithout count = (s place : ℕ) → s < count → slice_get places s ≡ Some place → IsWithout held numbers right place → ⊥
+  NoneWithout count = (s place : ℕ) → s < count → slice_get places s ≡ Some place → IsWithout entries numbers right place → ⊥
 
-  pub none-without-more : (index place number : ℕ) → slice_get places index ≡ Some place → slice_get numbers place ≡ Some number → member (rights_under held number) right ≡ true → NoneWithout index → NoneWithout (index + 1)
+  pub none-without-more : (index place number : ℕ) → slice_get places index ≡ Some place → slice_get numbers place ≡ Some number → IsSaid entries right number → NoneWithout index → NoneWithout (index + 1)
   none-without-more index place number at of has none s other low h lacks = by (cases_lt s index)
     where
       by : (s < index) ⊎ (index ≤ s) → ⊥
@@ -438,55 +252,55 @@ module _ (held : BTreeMap ℕ Rights) (numbers places : List ℕ) (right : Right
           let same : other ≡ place = cc in
           let numbered : Some lacks.0 ≡ Some number = sym lacks.1 ∙ ap (slice_get numbers) same ∙ of in
           let one : lacks.0 ≡ number = cc in
-          true≢false (sym has ∙ ap (λ n. member (rights_under held n) right) (sym one) ∙ lacks.2)
+          lacks.2 (subst (λ n. IsSaid entries right n) (sym one) has)
 
-  pub none-without-all : (count : ℕ) → length places ≤ count → NoneWithout count → IsFirstWithout held numbers places right None
+  pub none-without-all : (count : ℕ) → length places ≤ count → NoneWithout count → IsFirstWithout entries numbers places right None
   none-without-all count all none = λ t place h lacks. none t place (let low = slice_get_within places t place h in omega arith) h lacks
 
 -- ---- the soonest lack
 -- no right in front of this one is lacked
-abbrev pub NoneLacks : BTreeMap ℕ Rights → List ℕ → Rights → ℕ → Type 0
-NoneLacks held numbers rights count = (right : Right) (place : ℕ) → bit_of right < count → IsLackOf held numbers rights right place → ⊥
+abbrev pub NoneLacks : List Held → List ℕ → Rights → ℕ → Type 0
+NoneLacks entries numbers rights count = (right : Right) (place : ℕ) → bit_of right < count → IsLackOf entries numbers rights right place → ⊥
 
-module _ (held : BTreeMap ℕ Rights) (numbers : List ℕ) (rights : Rights) (places : BTreeMap ℕ ℕ) (order : List ℕ) (heads : AreHeads numbers (length numbers) places order) where
+module _ (entries : List Held) (numbers : List ℕ) (rights : Rights) (places : List (Option ℕ)) (order : List ℕ) (heads : AreHeads numbers (length numbers) places order) where
   -- where an island lacks a right, its first place is listed
-  lack_head : (right : Right) (place : ℕ) → IsLackOf held numbers rights right place → (t : ℕ) × (first : ℕ) × (slice_get order t ≡ Some first) × (first ≤ place) × IsWithout held numbers right first
+  lack_head : (right : Right) (place : ℕ) → IsLackOf entries numbers rights right place → (t : ℕ) × (first : ℕ) × (slice_get order t ≡ Some first) × (first ≤ place) × IsWithout entries numbers right first
   lack_head right place lack =
       let head = heads.there lack.number place (slice_get_within numbers place lack.number lack.stands) lack.stands in
       let t = heads.listed lack.number head.0 head.2 in
       (t.0, head.0, t.1, head.1, (lack.number, (heads.stands lack.number head.0 head.2).1, lack.lacks))
 
-  none_without : (right : Right) (place : ℕ) → IsClaimWithout held numbers order rights right None → IsLackOf held numbers rights right place → ⊥
+  none_without : (right : Right) (place : ℕ) → IsClaimWithout entries numbers order rights right None → IsLackOf entries numbers rights right place → ⊥
   none_without right place none lack = let h = lack_head right place lack in none lack.asked h.0 h.1 h.2 h.4
 
-  pub none-lacks : (count : ℕ) (right : Right) → NoneLacks held numbers rights count → bit_of right ≡ count → IsClaimWithout held numbers order rights right None → NoneLacks held numbers rights (count + 1)
+  pub none-lacks : (count : ℕ) (right : Right) → NoneLacks entries numbers rights count → bit_of right ≡ count → IsClaimWithout entries numbers order rights right None → NoneLacks entries numbers rights (count + 1)
   none-lacks count right before is none other place low lack = by (cases_lt (bit_of other) count)
     where
       by : (bit_of other < count) ⊎ (count ≤ bit_of other) → ⊥
       by (inl l) = before other place l lack
       by (inr l) =
           let same : other ≡ right = same_right other right (omega arith) in
-          none_without right place none (subst (λ r. IsLackOf held numbers rights r place) same lack)
+          none_without right place none (subst (λ r. IsLackOf entries numbers rights r place) same lack)
 
-  pub lack-soonest : (count : ℕ) (right : Right) (found : Claimed) → NoneLacks held numbers rights count → bit_of right ≡ count → IsClaimWithout held numbers order rights right (Some found) → IsSoonest (IsLackOf held numbers rights) (Some found)
+  pub lack-soonest : (count : ℕ) (right : Right) (found : Claimed) → NoneLacks entries numbers rights count → bit_of right ≡ count → IsClaimWithout entries numbers order rights right (Some found) → IsSoonest (IsLackOf entries numbers rights) (Some found)
   lack-soonest count right found before is claim = (lack, λ other place l s. by other place l s)
     where
-      without : IsWithout held numbers right found.place
+      without : IsWithout entries numbers right found.place
       without = claim.2.2
 
-      lack : IsLackOf held numbers rights found.right found.place
+      lack : IsLackOf entries numbers rights found.right found.place
       lack = record {
         number = without.0;
         stands = without.1;
         asked = subst (λ r. IsTrue (member rights r)) (sym claim.0) claim.1;
-        lacks = ap (λ r. member (rights_under held without.0) r) claim.0 ∙ without.2;
+        lacks = λ s. without.2 (subst (λ r. IsSaid entries r without.0) claim.0 s);
       }
 
       -- of the same right none stands in front
-      ahead : (place : ℕ) → IsLackOf held numbers rights right place → place < found.place → ⊥
+      ahead : (place : ℕ) → IsLackOf entries numbers rights right place → place < found.place → ⊥
       ahead place l less = cases (lack_head right place l)
         where
-          cases : (t : ℕ) × (first : ℕ) × (slice_get order t ≡ Some first) × (first ≤ place) × IsWithout held numbers right first → ⊥
+          cases : (t : ℕ) × (first : ℕ) × (slice_get order t ≡ Some first) × (first ≤ place) × IsWithout entries numbers right first → ⊥
           cases (t, first, stands, low, lacks) = by_place (cases_lt t claim.2.0) (cases_lt claim.2.0 t)
             where
               by_place : (t < claim.2.0) ⊎ (claim.2.0 ≤ t) → (claim.2.0 < t) ⊎ (t ≤ claim.2.0) → ⊥
@@ -498,35 +312,19 @@ module _ (held : BTreeMap ℕ Rights) (numbers : List ℕ) (rights : Rights) (pl
                   let same : first ≡ found.place = cc in
                   omega arith
 
-      by : (other : Right) (place : ℕ) → IsLackOf held numbers rights other place → IsSooner other place found.right found.place → ⊥
+      by : (other : Right) (place : ℕ) → IsLackOf entries numbers rights other place → IsSooner other place found.right found.place → ⊥
       by other place l (inl less) = let bits = ap bit_of claim.0 in before other place (omega arith) l
       by other place l (inr s) =
           let same : other ≡ right = s.0 ∙ claim.0 in
-          ahead place (subst (λ r. IsLackOf held numbers rights r place) same l) s.1
+          ahead place (subst (λ r. IsLackOf entries numbers rights r place) same l) s.1
 
-  pub lack-some : (count : ℕ) (right : Right) (claim : Option Claimed) → NoneLacks held numbers rights count → bit_of right ≡ count → IsClaimWithout held numbers order rights right claim → is_some claim ≡ true → IsSoonest (IsLackOf held numbers rights) claim
+  pub lack-some : (count : ℕ) (right : Right) (claim : Option Claimed) → NoneLacks entries numbers rights count → bit_of right ≡ count → IsClaimWithout entries numbers order rights right claim → is_some claim ≡ true → IsSoonest (IsLackOf entries numbers rights) claim
   lack-some count right None before is claim h = absurd (true≢false (sym h))
   lack-some count right (Some found) before is claim h = lack-soonest count right found before is claim
 
-  pub lack-none : (count : ℕ) (right : Right) (claim : Option Claimed) → NoneLacks held numbers rights count → bit_of right ≡ count → IsClaimWithout held numbers order rights right claim → is_some claim ≡ false → NoneLacks held numbers rights (count + 1)
+  pub lack-none : (count : ℕ) (right : Right) (claim : Option Claimed) → NoneLacks entries numbers rights count → bit_of right ≡ count → IsClaimWithout entries numbers order rights right claim → is_some claim ≡ false → NoneLacks entries numbers rights (count + 1)
   lack-none count right None before is claim h = none-lacks count right before is claim
   lack-none count right (Some found) before is claim h = absurd (true≢false h)
 
-  pub none-at-all : NoneLacks held numbers rights 7 → IsSoonest (IsLackOf held numbers rights) None
+  pub none-at-all : NoneLacks entries numbers rights 7 → IsSoonest (IsLackOf entries numbers rights) None
   none-at-all none = λ right place lack. none right place (bit_below right) lack
-
--- ---- the case at the first spot
-module _ (claim : Right → Name → Name → Type 0) (rights : Rights) (xs ys : List Name) where
-  pub first-case : (spot : Option Spot) (result : Option Case) → IsFirstSpot (λ right i j. IsCase claim rights xs ys right i j) (length ys) spot → (spot ≡ None → result ≡ None) → ((s : Spot) (x y : Name) → spot ≡ Some s → slice_get xs s.x ≡ Some x → slice_get ys s.y ≡ Some y → result ≡ Some (record { right = s.right; x = x; y = y })) → FindsFirst claim rights xs ys result
-  first-case None result none nowhere there = subst (FindsFirst claim rights xs ys) (sym (nowhere refl)) (λ right i j c. none right i j (slice_get_within ys j c.y c.at_y) c)
-  first-case (Some s) result first nowhere there =
-      let c = first.1 in
-      subst (FindsFirst claim rights xs ys) (sym (there s c.x c.y refl c.at_x c.at_y)) (record {
-        i = s.x;
-        j = s.y;
-        at_x = c.at_x;
-        at_y = c.at_y;
-        asked = c.asked;
-        claimed = c.claimed;
-        first = λ right k l d e. first.2 right k l (slice_get_within ys l d.y d.at_y) d e;
-      })

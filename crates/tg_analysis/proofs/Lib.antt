@@ -40,6 +40,8 @@ pub mod CaseOrder
 pub mod HeldEntries
 pub mod MemberLists
 pub mod Claims
+pub mod FirstCases
+pub mod RisingEntries
 pub mod LookedIslands
 pub mod Blocked
 pub mod Spreads

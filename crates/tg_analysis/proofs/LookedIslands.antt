@@ -1,76 +1,63 @@
--- The names of a list as a set, and the islands that were looked at.
-use Rattle.std.proofs.Common.{◌≡◌, ℕ, ◌<◌, ◌≤◌, ◌+◌, Bool, true, false, cond, ◌||◌, List, [], Option, Some, None, length, slice_get, get_or, take, bytes_eq, refl, sym, ap, subst, ◌∙◌, arith, true≢false, inl, inr, ◌⊎◌, IsTrue}
-use Rattle.std.specs.List.{list_any}
-use Rattle.std.specs.Cmp.Lexicographic.{slice_cmp, nat_list_eq_equiv}
-use Rattle.std.specs.Ordering.{nat_cmp, is_eq}
-use Rattle.std.specs.Map.{lookup}
-use Rattle.std.specs.BTreeMap.{get}
-use Rattle.std.specs.BTreeSet.{BTreeSet, contains, Updates}
+-- The islands that were looked at.
+use Rattle.std.proofs.Common.{◌≡◌, ℕ, ◌<◌, ◌≤◌, ◌+◌, Bool, true, false, List, set, replicate, Option, Some, None, length, slice_get, sym, ap, subst, ◌∙◌, arith, true≢false, inl, inr, ◌⊎◌}
 use Rattle.std.proofs.lemmas.Bool.{cases_eq, cases_lt}
-use Rattle.std.proofs.lemmas.List.Folds.{list_any_more}
-use Rattle.std.proofs.lemmas.Map.Text.{is_eq-slice_cmp}
-use Rattle.tg_graph.specs.Graphs.{Name}
+use Rattle.std.proofs.lemmas.List.{get_or-set_same, get_or-set_other, get_or-replicate, get_or_past, length-replicate}
 use Rattle.tg_analysis.specs.declared.held.Held.{Held}
 use Rattle.tg_analysis.specs.declared.case_index.Beyond.{Beyond}
-use Rattle.tg_analysis.specs.Cases.{is_in, IsFirstBeyond, HasLooked}
-use Rattle.tg_analysis.proofs.NumberKeys.{apart, own_key}
+use Rattle.tg_analysis.specs.Cases.{is_marked, place_at, IsFirstBeyond, HasLooked}
 
-either : (b c : Bool) → cond b true c ≡ (c || b)
-either true true = refl
-either true false = refl
-either false true = refl
-either false false = refl
-
--- a name that joins the set
-pub set-more : (names : List Name) (i : ℕ) (old new : BTreeSet Name) (name : Name) → i < length names → get_or names i name ≡ name → Updates (slice_cmp nat_cmp) old new name true → ((v : Name) → is_in old v ≡ list_any (bytes_eq v) (take i names)) → (v : Name) → is_in new v ≡ list_any (bytes_eq v) (take (i + 1) names)
-set-more names i old new name low at u h v =
-    u.0 v
-    ∙ ap (λ b. cond b true (is_in old v)) (is_eq-slice_cmp name v)
-    ∙ ap (λ b. cond (bytes_eq name v) true b) (h v)
-    ∙ either (bytes_eq name v) (list_any (bytes_eq v) (take i names))
-    ∙ ap (λ b. list_any (bytes_eq v) (take i names) || b) (nat_list_eq_equiv.symm name v ∙ ap (bytes_eq v) (sym at))
-    ∙ sym (list_any_more (bytes_eq v) names i name low)
+-- none of so many is marked
+pub unmarked : (count n : ℕ) → is_marked (replicate count false) n ≡ false
+unmarked count n = by (cases_lt n count)
+  where
+    by : (n < count) ⊎ (count ≤ n) → is_marked (replicate count false) n ≡ false
+    by (inl low) = get_or-replicate count n false false low
+    by (inr high) = get_or_past (replicate count false) n false (omega (arith, length-replicate {A = Bool} count false))
 
 -- no island was looked at
-pub looks-none : (numbers : List ℕ) (names : List Name) (beyond : Beyond) → beyond.places.entries ≡ [] → beyond.looked.keys ≡ [] → HasLooked numbers names beyond
-looks-none numbers names beyond empty unlooked = record {
-  looked = λ n h. absurd (true≢false (sym h ∙ ap (λ (keys : List ℕ). list_any (λ k. is_eq (nat_cmp n k)) keys) unlooked));
-  other = λ n h. ap (λ (entries : List (ℕ × ℕ)). lookup (λ k. is_eq (nat_cmp n k)) entries) empty;
+pub looks-none : (numbers : List ℕ) (is_allowed : ℕ → Bool) (beyond : Beyond) (count : ℕ) → beyond.looked.items ≡ replicate count false → HasLooked numbers is_allowed beyond
+looks-none numbers is_allowed beyond count empty = record {
+  looked = λ n h. absurd (true≢false (sym h ∙ ap (λ marks. is_marked marks n) empty ∙ unmarked count n));
 }
 
+-- a place that is marked stays so, and another one becomes so
+pub marks-keep : (marks : List Bool) (n k : ℕ) → n < length marks → is_marked marks k ≡ true → is_marked (set marks n true) k ≡ true
+marks-keep marks n k low h = by (cases_eq k n)
+  where
+    by : (k ≡ n) ⊎ (k ≡ n → ⊥) → is_marked (set marks n true) k ≡ true
+    by (inl is) = ap (is_marked (set marks n true)) is ∙ get_or-set_same marks n true false low
+    by (inr other) = get_or-set_other marks n k true false other ∙ h
+
 -- an island that was not looked at before
-module _ (numbers : List ℕ) (names : List Name) (old new : Beyond) (n : ℕ) (found : Option ℕ) (has : HasLooked numbers names old) (fresh : contains nat_cmp old.looked n ≡ false) (first : IsFirstBeyond numbers names (is_in old.allowed) n found) (allowed : new.allowed ≡ old.allowed) (looks : (q : ℕ) → contains nat_cmp new.looked q ≡ cond (is_eq (nat_cmp n q)) true (contains nat_cmp old.looked q)) (here : get nat_cmp new.places n ≡ found) (others : (q : ℕ) → is_eq (nat_cmp n q) ≡ false → get nat_cmp new.places q ≡ get nat_cmp old.places q) where
-  abbrev First : (BTreeSet Name) → ℕ → Option ℕ → Type 0
-  First set q place = IsFirstBeyond numbers names (is_in set) q place
-
-  looked-other : (q : ℕ) → (n ≡ q → ⊥) → contains nat_cmp new.looked q ≡ contains nat_cmp old.looked q
-  looked-other q other = looks q ∙ ap (λ b. cond b true (contains nat_cmp old.looked q)) (apart n q other)
-
-  looked-own : contains nat_cmp new.looked n ≡ true
-  looked-own = looks n ∙ ap (λ b. cond b true (contains nat_cmp old.looked n)) (own_key n)
-
-  pub looks-more : HasLooked numbers names new
-  looks-more = record {
-    looked = λ q h. subst (λ s. First s q (get nat_cmp new.places q)) (sym allowed) (looked q h (cases_eq n q));
-    other = λ q h. other q h (cases_eq n q);
-  }
+module _ (numbers : List ℕ) (is_allowed : ℕ → Bool) (old new : Beyond) (n : ℕ) (found : Option ℕ) (has : HasLooked numbers is_allowed old) (first : IsFirstBeyond numbers is_allowed n found) (low : n < length old.places.items) (marks : new.looked.items ≡ set old.looked.items n true) (places : new.places.items ≡ set old.places.items n found) where
+  pub looks-more : HasLooked numbers is_allowed new
+  looks-more = record { looked = λ q h. looked q h (cases_eq q n) }
     where
-      looked : (q : ℕ) → contains nat_cmp new.looked q ≡ true → (n ≡ q) ⊎ (n ≡ q → ⊥) → First old.allowed q (get nat_cmp new.places q)
-      looked q h (inl is) = subst (λ m. First old.allowed m (get nat_cmp new.places m)) is (subst (First old.allowed n) (sym here) first)
-      looked q h (inr not) = subst (First old.allowed q) (sym (others q (apart n q not))) (has.looked q (sym (looked-other q not) ∙ h))
+      at : (q : ℕ) → place_at new.places.items q ≡ place_at (set old.places.items n found) q
+      at q = ap (λ list. place_at list q) places
 
-      other : (q : ℕ) → contains nat_cmp new.looked q ≡ false → (n ≡ q) ⊎ (n ≡ q → ⊥) → get nat_cmp new.places q ≡ None
-      other q h (inl is) = absurd (true≢false (sym looked-own ∙ ap (contains nat_cmp new.looked) is ∙ h))
-      other q h (inr not) = others q (apart n q not) ∙ has.other q (sym (looked-other q not) ∙ h)
+      looked : (q : ℕ) → is_marked new.looked.items q ≡ true → (q ≡ n) ⊎ (q ≡ n → ⊥) → IsFirstBeyond numbers is_allowed q (place_at new.places.items q)
+      looked q h (inl is) = subst (λ m. IsFirstBeyond numbers is_allowed m (place_at new.places.items m)) (sym is) (subst (IsFirstBeyond numbers is_allowed n) (sym (at n ∙ get_or-set_same old.places.items n found None low)) first)
+      looked q h (inr other) =
+          let before = sym (get_or-set_other old.looked.items n q true false other) ∙ sym (ap (λ list. is_marked list q) marks) ∙ h in
+          subst (IsFirstBeyond numbers is_allowed q) (sym (at q ∙ get_or-set_other old.places.items n q found None other)) (has.looked q before)
 
 -- the islands of one entry more
-pub all-looked-more : (entries : List Held) (count : ℕ) (entry : Held) (old new : BTreeSet ℕ) → slice_get entries count ≡ Some entry → ((place : ℕ) (one : Held) → place < count → slice_get entries place ≡ Some one → IsTrue (contains nat_cmp old one.number)) → ((n : ℕ) → IsTrue (contains nat_cmp old n) → IsTrue (contains nat_cmp new n)) → IsTrue (contains nat_cmp new entry.number) → (place : ℕ) (one : Held) → place < count + 1 → slice_get entries place ≡ Some one → IsTrue (contains nat_cmp new one.number)
-all-looked-more entries count entry old new here before kept last place one low h = by (cases_lt place count)
+pub all-looked-more : (entries : List Held) (count bound : ℕ) (entry : Held) (old new : List Bool) → slice_get entries count ≡ Some entry → ((place : ℕ) (one : Held) → place < count → slice_get entries place ≡ Some one → one.number < bound → is_marked old one.number ≡ true) → ((n : ℕ) → is_marked old n ≡ true → is_marked new n ≡ true) → (entry.number < bound → is_marked new entry.number ≡ true) → (place : ℕ) (one : Held) → place < count + 1 → slice_get entries place ≡ Some one → one.number < bound → is_marked new one.number ≡ true
+all-looked-more entries count bound entry old new here before kept last place one low h within = by (cases_lt place count)
   where
-    by : (place < count) ⊎ (count ≤ place) → IsTrue (contains nat_cmp new one.number)
-    by (inl l) = kept one.number (before place one l h)
+    by : (place < count) ⊎ (count ≤ place) → is_marked new one.number ≡ true
+    by (inl l) = kept one.number (before place one l h within)
     by (inr l) =
         let is : place ≡ count = omega arith in
         let both : Some one ≡ Some entry = sym h ∙ ap (slice_get entries) is ∙ here in
         let same : one ≡ entry = cc in
-        subst (λ (e : Held). IsTrue (contains nat_cmp new e.number)) (sym same) last
+        subst (λ (e : Held). e.number < bound → is_marked new e.number ≡ true) (sym same) last within
+
+-- where the islands of the entries were looked at, each place is that of a first member: an island with a number past the bound has none
+pub first-of-each : (numbers : List ℕ) (is_allowed : ℕ → Bool) (beyond : Beyond) (entries : List Held) → HasLooked numbers is_allowed beyond → ((k n : ℕ) → slice_get numbers k ≡ Some n → n < length beyond.places.items) → ((place : ℕ) (entry : Held) → slice_get entries place ≡ Some entry → entry.number < length beyond.places.items → is_marked beyond.looked.items entry.number ≡ true) → (place : ℕ) (entry : Held) → slice_get entries place ≡ Some entry → IsFirstBeyond numbers is_allowed entry.number (place_at beyond.places.items entry.number)
+first-of-each numbers is_allowed beyond entries has below looked place entry h = by (cases_lt entry.number (length beyond.places.items))
+  where
+    by : (entry.number < length beyond.places.items) ⊎ (length beyond.places.items ≤ entry.number) → IsFirstBeyond numbers is_allowed entry.number (place_at beyond.places.items entry.number)
+    by (inl low) = has.looked entry.number (looked place entry h low)
+    by (inr high) = subst (IsFirstBeyond numbers is_allowed entry.number) (sym (get_or_past beyond.places.items entry.number None high)) (λ k at. absurd (let low = below k entry.number at in omega arith))

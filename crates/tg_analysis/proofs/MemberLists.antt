@@ -3,7 +3,6 @@ use Rattle.std.proofs.Common.{◌≡◌, ℕ, ◌<◌, ◌≤◌, ◌+◌, Bool,
 use Rattle.std.proofs.lemmas.Bool.{cases_lt, cases_eq}
 use Rattle.std.proofs.lemmas.List.{get_or-set_same, get_or-set_other, get_or-replicate, get_or_past, length-replicate}
 use Rattle.std.proofs.lemmas.Option.{slice_get_within}
-use Rattle.tg_graph.specs.Graphs.{Name}
 use Rattle.tg_analysis.specs.Cases.{place_at, IsLeastFrom, AreMembersFrom, IsFirstBeyond}
 
 -- so many places that are not there
@@ -58,45 +57,45 @@ module _ (numbers : List ℕ) where
             subst (IsLeastFrom numbers n (place + 1)) (sym read) (subst (λ m. IsLeastFrom numbers m (place + 1) (place_at firsts number)) (sym own) (subst (λ m. IsLeastFrom numbers number (m + 1) (place_at firsts number)) (sym is) (so_far.first number)))
         next place n past h (inr other) = subst (IsLeastFrom numbers n (place + 1)) (sym (get_or-set_other nexts position place (place_at firsts number) None other)) (so_far.next place n (omega arith) h)
 
--- ---- the first that is none of the allowed
+-- ---- the first that is not allowed
 -- those in front of the position are allowed, and the next stands first from there on
-pub record IsPassed (numbers : List ℕ) (names : List Name) (is_allowed : Name → Bool) (n count : ℕ) (next : Option ℕ) : Type 0 where
+pub record IsPassed (numbers : List ℕ) (is_allowed : ℕ → Bool) (n count : ℕ) (next : Option ℕ) : Type 0 where
   pub position : ℕ
   pub past : count ≤ position
-  pub allowed : (k : ℕ) (v : Name) → k < position → slice_get numbers k ≡ Some n → slice_get names k ≡ Some v → is_allowed v ≡ true
+  pub allowed : (k : ℕ) → k < position → slice_get numbers k ≡ Some n → is_allowed k ≡ true
   pub least : IsLeastFrom numbers n position next
 
-module _ (numbers : List ℕ) (names : List Name) (is_allowed : Name → Bool) (n : ℕ) where
-  pub passed-first : (first : Option ℕ) → IsLeastFrom numbers n 0 first → IsPassed numbers names is_allowed n 0 first
-  passed-first first least = record { position = 0; past = omega arith; allowed = λ k v low h at. absurd (omega arith); least = least }
+module _ (numbers : List ℕ) (is_allowed : ℕ → Bool) (n : ℕ) where
+  pub passed-first : (first : Option ℕ) → IsLeastFrom numbers n 0 first → IsPassed numbers is_allowed n 0 first
+  passed-first first least = record { position = 0; past = omega arith; allowed = λ k low h. absurd (omega arith); least = least }
 
-  pub passed-all : (count : ℕ) → IsPassed numbers names is_allowed n count None → IsFirstBeyond numbers names is_allowed n None
-  passed-all count p = λ k v h at. by k v h at (cases_lt k p.position)
+  pub passed-all : (count : ℕ) → IsPassed numbers is_allowed n count None → IsFirstBeyond numbers is_allowed n None
+  passed-all count p = λ k h. by k h (cases_lt k p.position)
     where
-      by : (k : ℕ) (v : Name) → slice_get numbers k ≡ Some n → slice_get names k ≡ Some v → (k < p.position) ⊎ (p.position ≤ k) → is_allowed v ≡ true
-      by k v h at (inl low) = p.allowed k v low h at
-      by k v h at (inr high) = absurd (p.least k high h)
+      by : (k : ℕ) → slice_get numbers k ≡ Some n → (k < p.position) ⊎ (p.position ≤ k) → is_allowed k ≡ true
+      by k h (inl low) = p.allowed k low h
+      by k h (inr high) = absurd (p.least k high h)
 
-  pub passed-end : (count : ℕ) (next : Option ℕ) → length numbers ≤ count → IsPassed numbers names is_allowed n count next → IsFirstBeyond numbers names is_allowed n None
-  passed-end count next all p = λ k v h at. p.allowed k v (let low = slice_get_within numbers k n h in let past = p.past in omega arith) h at
+  pub passed-end : (count : ℕ) (next : Option ℕ) → length numbers ≤ count → IsPassed numbers is_allowed n count next → IsFirstBeyond numbers is_allowed n None
+  passed-end count next all p = λ k h. p.allowed k (let low = slice_get_within numbers k n h in let past = p.past in omega arith) h
 
-  pub passed-to : (count place : ℕ) → IsPassed numbers names is_allowed n count (Some place) → ((v : Name) → slice_get names place ≡ Some v → is_allowed v ≡ false) → IsFirstBeyond numbers names is_allowed n (Some place)
-  passed-to count place p not = (p.least.1, not, λ k v low h at. by k v low h at (cases_lt k p.position))
+  pub passed-to : (count place : ℕ) → IsPassed numbers is_allowed n count (Some place) → is_allowed place ≡ false → IsFirstBeyond numbers is_allowed n (Some place)
+  passed-to count place p not = (p.least.1, not, λ k low h. by k low h (cases_lt k p.position))
     where
-      by : (k : ℕ) (v : Name) → k < place → slice_get numbers k ≡ Some n → slice_get names k ≡ Some v → (k < p.position) ⊎ (p.position ≤ k) → is_allowed v ≡ true
-      by k v less h at (inl low) = p.allowed k v low h at
-      by k v less h at (inr high) = absurd (let least = p.least.2 k high h in omega arith)
+      by : (k : ℕ) → k < place → slice_get numbers k ≡ Some n → (k < p.position) ⊎ (p.position ≤ k) → is_allowed k ≡ true
+      by k less h (inl low) = p.allowed k low h
+      by k less h (inr high) = absurd (let least = p.least.2 k high h in omega arith)
 
-  pub passed-more : (count place : ℕ) (next : Option ℕ) → IsPassed numbers names is_allowed n count (Some place) → ((v : Name) → slice_get names place ≡ Some v → is_allowed v ≡ true) → IsLeastFrom numbers n (place + 1) next → IsPassed numbers names is_allowed n (count + 1) next
+  pub passed-more : (count place : ℕ) (next : Option ℕ) → IsPassed numbers is_allowed n count (Some place) → is_allowed place ≡ true → IsLeastFrom numbers n (place + 1) next → IsPassed numbers is_allowed n (count + 1) next
   passed-more count place next p ok least = record {
     position = place + 1;
     past = (let low = p.past in let high = p.least.0 in omega arith);
-    allowed = λ k v low h at. by k v low h at (cases_lt k p.position);
+    allowed = λ k low h. by k low h (cases_lt k p.position);
     least = least;
   }
     where
-      by : (k : ℕ) (v : Name) → k < place + 1 → slice_get numbers k ≡ Some n → slice_get names k ≡ Some v → (k < p.position) ⊎ (p.position ≤ k) → is_allowed v ≡ true
-      by k v low h at (inl front) = p.allowed k v front h at
-      by k v low h at (inr high) =
+      by : (k : ℕ) → k < place + 1 → slice_get numbers k ≡ Some n → (k < p.position) ⊎ (p.position ≤ k) → is_allowed k ≡ true
+      by k low h (inl front) = p.allowed k front h
+      by k low h (inr high) =
           let same : k ≡ place = (let least = p.least.2 k high h in omega arith) in
-          ok v (sym (ap (slice_get names) same) ∙ at)
+          ap is_allowed same ∙ ok

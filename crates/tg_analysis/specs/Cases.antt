@@ -1,18 +1,14 @@
 -- The first right, x and y of which something holds: by right in the order of the letters, then by the place of x, then by that of y.
-use Rattle.std.specs.Prelude.{◌≡◌, ℕ, ◌<◌, ◌≤◌, ◌+◌, ◌↔◌, Bool, true, false, ◌||◌, ◌&&◌, IsTrue, if◌then◌else◌, nat_eq, nat_lt, bytes_eq, List, length, slice_get, slice_index_or, unwrap_or, Option, Some, None, ◌⊎◌}
-use Rattle.std.specs.List.{list_any}
+use Rattle.std.specs.Prelude.{◌≡◌, ℕ, ◌<◌, ◌≤◌, ◌+◌, ◌^◌, ◌↔◌, Bool, true, false, ◌||◌, ◌&&◌, IsTrue, if◌then◌else◌, nat_eq, nat_lt, bytes_eq, List, length, position, slice_get, slice_index_or, unwrap_or, Option, Some, None, ◌⊎◌}
 use Rattle.std.specs.BTreeMap.{get, BTreeMap}
-use Rattle.std.specs.BTreeSet.{BTreeSet}
-use Rattle.std.specs.BTreeSet as set
 use Rattle.std.specs.Map.{keys_of}
-use Rattle.std.specs.Cmp.Lexicographic.{slice_cmp}
 use Rattle.std.specs.Ordering.{nat_cmp}
 use Rattle.tg_graph.specs.declared.right_sets.Right.{Right}
 use Rattle.tg_graph.specs.declared.right_sets.Rights.{Rights}
 use Rattle.tg_graph.specs.Sets.{member, nothing, bit_of, IsNamed}
-use Rattle.tg_graph.specs.Graphs.{Name, ProtectionGraph, has_vertex}
+use Rattle.tg_graph.specs.Graphs.{Name, ProtectionGraph, WellFormed, has_vertex}
 use Rattle.tg_graph.specs.GraphOf.{graph_of}
-use Rattle.tg_graph.specs.Rows.{Entries}
+use Rattle.tg_graph.specs.Rows.{Entries, IsGraph}
 use Rattle.tg_graph.specs.RuleLists.{CanShare}
 use Rattle.tg_analysis.specs.declared.cases.Case.{Case}
 use Rattle.tg_analysis.specs.declared.cases.Claimed.{Claimed}
@@ -31,37 +27,51 @@ IsSooner r i s k = (bit_of r < bit_of s) ⊎ ((r ≡ s) × (i < k))
 abbrev pub IsEarlier : Right → ℕ → ℕ → Right → ℕ → ℕ → Type 0
 IsEarlier r i j s k l = IsSooner r i s k ⊎ ((r ≡ s) × (i ≡ k) × (j < l))
 
--- the claim holds of the right, which is of the set, of the name at a place of xs and of that at a place of ys
-pub record IsCase (claim : Right → Name → Name → Type 0) (rights : Rights) (xs ys : List Name) (right : Right) (i j : ℕ) : Type 0 where
+-- ---- who and whom: which names are meant at which places
+-- the name that stands at one of the places of a list
+abbrev pub StandsAt : List Name → List ℕ → ℕ → Name → Type 0
+StandsAt names places i v = (place : ℕ) × (slice_get places i ≡ Some place) × (slice_get names place ≡ Some v)
+
+-- whether the place is marked
+abbrev pub is_marked : List Bool → ℕ → Bool
+is_marked marks place = slice_index_or marks place false
+
+-- the name at a place that is not marked
+abbrev pub StandsUnmarked : List Name → List Bool → ℕ → Name → Type 0
+StandsUnmarked names marks place v = (slice_get names place ≡ Some v) × (is_marked marks place ≡ false)
+
+-- each is a place of a list of so many
+abbrev pub ArePlaces : ℕ → List ℕ → Type 0
+ArePlaces count places = (i place : ℕ) → slice_get places i ≡ Some place → place < count
+
+-- ---- cases
+-- the claim holds of the right, which is of the set, of the x that is meant at one place and of the y that is meant at another
+pub record IsCase (claim : Right → Name → Name → Type 0) (rights : Rights) (who whom : ℕ → Name → Type 0) (right : Right) (i j : ℕ) : Type 0 where
   pub x : Name
   pub y : Name
-  pub at_x : slice_get xs i ≡ Some x
-  pub at_y : slice_get ys j ≡ Some y
+  pub at_x : who i x
+  pub at_y : whom j y
   pub asked : IsTrue (member rights right)
   pub claimed : claim right x y
 
 -- the claim holds of this case, and of none that comes earlier
-pub record IsFirst (claim : Right → Name → Name → Type 0) (rights : Rights) (xs ys : List Name) (found : Case) : Type 0 where
+pub record IsFirst (claim : Right → Name → Name → Type 0) (rights : Rights) (who whom : ℕ → Name → Type 0) (found : Case) : Type 0 where
   pub i : ℕ
   pub j : ℕ
-  pub at_x : slice_get xs i ≡ Some found.x
-  pub at_y : slice_get ys j ≡ Some found.y
+  pub at_x : who i found.x
+  pub at_y : whom j found.y
   pub asked : IsTrue (member rights found.right)
   pub claimed : claim found.right found.x found.y
-  pub first : (right : Right) (k l : ℕ) → IsCase claim rights xs ys right k l → IsEarlier right k l found.right i j → ⊥
+  pub first : (right : Right) (k l : ℕ) → IsCase claim rights who whom right k l → IsEarlier right k l found.right i j → ⊥
 
 -- the first case of which the claim holds; none where it holds of none
-abbrev pub FindsFirst : (Right → Name → Name → Type 0) → Rights → List Name → List Name → Option Case → Type 0
-FindsFirst claim rights xs ys None = (right : Right) (i j : ℕ) → IsCase claim rights xs ys right i j → ⊥
-FindsFirst claim rights xs ys (Some found) = IsFirst claim rights xs ys found
+abbrev pub FindsFirst : (Right → Name → Name → Type 0) → Rights → (ℕ → Name → Type 0) → (ℕ → Name → Type 0) → Option Case → Type 0
+FindsFirst claim rights who whom None = (right : Right) (i j : ℕ) → IsCase claim rights who whom right i j → ⊥
+FindsFirst claim rights who whom (Some found) = IsFirst claim rights who whom found
 
 -- x can't come to have the right over y
 abbrev pub CannotShare : ProtectionGraph → Right → Name → Name → Type 0
 CannotShare g right x y = CanShare g right x y → ⊥
-
--- x can, and is none of the allowed
-abbrev pub CanShareBeyond : ProtectionGraph → List Name → Right → Name → Name → Type 0
-CanShareBeyond g allowed right x y = CanShare g right x y × (list_any (bytes_eq x) allowed ≡ false)
 
 -- each of the names is a vertex
 abbrev pub AreVertices : ProtectionGraph → List Name → Type 0
@@ -118,14 +128,22 @@ pub record IsEntryOf (numbers : List ℕ) (to : ℕ) (edge : HeldEdge) (right : 
 abbrev pub GainsEntry : List ℕ → ℕ → HeldEdge → List Held → List Held → Type 0
 GainsEntry numbers target edge old new = (right : Right) (number : ℕ) → IsSaid new right number ↔ (IsSaid old right number ⊎ IsEntryOf numbers target edge right number)
 
+-- the entries stand in rising order of their numbers
+abbrev pub AreRising : List Held → Type 0
+AreRising entries = (i j : ℕ) (a b : Held) → i < j → slice_get entries i ≡ Some a → slice_get entries j ≡ Some b → a.number < b.number
+
+-- the place that a list has at a number, if it has one
+abbrev pub place_at : List (Option ℕ) → ℕ → Option ℕ
+place_at places n = slice_index_or places n None
+
 -- an entry says so of a right of the set and of an island which the place stands for
-pub record IsClaimOf (entry : Held) (places : BTreeMap ℕ ℕ) (rights : Rights) (right : Right) (place : ℕ) : Type 0 where
+pub record IsClaimOf (entry : Held) (places : List (Option ℕ)) (rights : Rights) (right : Right) (place : ℕ) : Type 0 where
   pub held : IsTrue (member entry.label right)
   pub asked : IsTrue (member rights right)
-  pub stands : get nat_cmp places entry.number ≡ Some place
+  pub stands : place_at places entry.number ≡ Some place
 
 -- one of the first so many entries does
-pub record IsClaim (entries : List Held) (places : BTreeMap ℕ ℕ) (rights : Rights) (count : ℕ) (right : Right) (place : ℕ) : Type 0 where
+pub record IsClaim (entries : List Held) (places : List (Option ℕ)) (rights : Rights) (count : ℕ) (right : Right) (place : ℕ) : Type 0 where
   pub index : ℕ
   pub low : index < count
   pub entry : Held
@@ -142,25 +160,25 @@ pub record JoinsUpTo (entries : List Held) (count : ℕ) (held : BTreeMap ℕ Ri
   pub members : (number : ℕ) (right : Right) → IsTrue (member (rights_under held number) right) ↔ ((index : ℕ) × (index < count) × (entry : Held) × (slice_get entries index ≡ Some entry) × (entry.number ≡ number) × IsTrue (member entry.label right))
 
 -- the island of the number at a place lacks the right, which is of the set
-pub record IsLackOf (held : BTreeMap ℕ Rights) (numbers : List ℕ) (rights : Rights) (right : Right) (place : ℕ) : Type 0 where
+pub record IsLackOf (entries : List Held) (numbers : List ℕ) (rights : Rights) (right : Right) (place : ℕ) : Type 0 where
   pub number : ℕ
   pub stands : slice_get numbers place ≡ Some number
   pub asked : IsTrue (member rights right)
-  pub lacks : member (rights_under held number) right ≡ false
+  pub lacks : IsSaid entries right number → ⊥
 
 -- the number at the place is of an island that lacks the right
-abbrev pub IsWithout : BTreeMap ℕ Rights → List ℕ → Right → ℕ → Type 0
-IsWithout held numbers right place = (number : ℕ) × (slice_get numbers place ≡ Some number) × (member (rights_under held number) right ≡ false)
+abbrev pub IsWithout : List Held → List ℕ → Right → ℕ → Type 0
+IsWithout entries numbers right place = (number : ℕ) × (slice_get numbers place ≡ Some number) × (IsSaid entries right number → ⊥)
 
 -- the first of the places of which that is so, if it is of one
-abbrev pub IsFirstWithout : BTreeMap ℕ Rights → List ℕ → List ℕ → Right → Option ℕ → Type 0
-IsFirstWithout held numbers places right None = (t place : ℕ) → slice_get places t ≡ Some place → IsWithout held numbers right place → ⊥
-IsFirstWithout held numbers places right (Some found) = (t : ℕ) × (slice_get places t ≡ Some found) × IsWithout held numbers right found × ((s place : ℕ) → s < t → slice_get places s ≡ Some place → IsWithout held numbers right place → ⊥)
+abbrev pub IsFirstWithout : List Held → List ℕ → List ℕ → Right → Option ℕ → Type 0
+IsFirstWithout entries numbers places right None = (t place : ℕ) → slice_get places t ≡ Some place → IsWithout entries numbers right place → ⊥
+IsFirstWithout entries numbers places right (Some found) = (t : ℕ) × (slice_get places t ≡ Some found) × IsWithout entries numbers right found × ((s place : ℕ) → s < t → slice_get places s ≡ Some place → IsWithout entries numbers right place → ⊥)
 
 -- the same, if the right is of the set
-abbrev pub IsClaimWithout : BTreeMap ℕ Rights → List ℕ → List ℕ → Rights → Right → Option Claimed → Type 0
-IsClaimWithout held numbers places rights right None = IsTrue (member rights right) → IsFirstWithout held numbers places right None
-IsClaimWithout held numbers places rights right (Some found) = (found.right ≡ right) × IsTrue (member rights right) × IsFirstWithout held numbers places right (Some found.place)
+abbrev pub IsClaimWithout : List Held → List ℕ → List ℕ → Rights → Right → Option Claimed → Type 0
+IsClaimWithout entries numbers places rights right None = IsTrue (member rights right) → IsFirstWithout entries numbers places right None
+IsClaimWithout entries numbers places rights right (Some found) = (found.right ≡ right) × IsTrue (member rights right) × IsFirstWithout entries numbers places right (Some found.place)
 
 -- ---- first places
 -- the numbers of the islands of the names, in turn
@@ -168,20 +186,21 @@ pub record AreNumbersOf (vertices : List Name) (islands : List ℕ) (names : Lis
   pub len : length numbers ≡ count
   pub each : (i n : ℕ) (v : Name) → slice_get numbers i ≡ Some n → slice_get names i ≡ Some v → number_of vertices islands v ≡ Some n
 
+-- the numbers that stand at the first so many of the places
+pub record AreNumbersAt (numbers places : List ℕ) (count : ℕ) (listed : List ℕ) : Type 0 where
+  pub len : length listed ≡ count
+  pub each : (i n place : ℕ) → slice_get listed i ≡ Some n → slice_get places i ≡ Some place → slice_get numbers place ≡ Some n
+
 -- each number in front of the position has a place at which it stands, before which it doesn't; and these places, and no others, are listed in rising order
-pub record AreHeads (numbers : List ℕ) (position : ℕ) (places : BTreeMap ℕ ℕ) (order : List ℕ) : Type 0 where
-  pub stands : (number place : ℕ) → get nat_cmp places number ≡ Some place → (place < position) × (slice_get numbers place ≡ Some number)
-  pub there : (number place : ℕ) → place < position → slice_get numbers place ≡ Some number → (first : ℕ) × (first ≤ place) × (get nat_cmp places number ≡ Some first)
-  pub listed : (number first : ℕ) → get nat_cmp places number ≡ Some first → (t : ℕ) × (slice_get order t ≡ Some first)
-  pub heads : (t place : ℕ) → slice_get order t ≡ Some place → (number : ℕ) × (get nat_cmp places number ≡ Some place)
+pub record AreHeads (numbers : List ℕ) (position : ℕ) (places : List (Option ℕ)) (order : List ℕ) : Type 0 where
+  pub stands : (number place : ℕ) → place_at places number ≡ Some place → (place < position) × (slice_get numbers place ≡ Some number)
+  pub there : (number place : ℕ) → place < position → slice_get numbers place ≡ Some number → (first : ℕ) × (first ≤ place) × (place_at places number ≡ Some first)
+  pub listed : (number first : ℕ) → place_at places number ≡ Some first → (t : ℕ) × (slice_get order t ≡ Some first)
+  pub heads : (t place : ℕ) → slice_get order t ≡ Some place → (number : ℕ) × (place_at places number ≡ Some place)
   pub within : (t place : ℕ) → slice_get order t ≡ Some place → place < position
   pub rising : (s t a b : ℕ) → s < t → slice_get order s ≡ Some a → slice_get order t ≡ Some b → a < b
 
 -- ---- members of islands, by the places of their names
--- the place that a list has at a number, if it has one
-abbrev pub place_at : List (Option ℕ) → ℕ → Option ℕ
-place_at places n = slice_index_or places n None
-
 -- the first place from the position on at which the number stands, if it stands at one
 abbrev pub IsLeastFrom : List ℕ → ℕ → ℕ → Option ℕ → Type 0
 IsLeastFrom numbers n position None = (k : ℕ) → position ≤ k → slice_get numbers k ≡ Some n → ⊥
@@ -193,45 +212,43 @@ pub record AreMembersFrom (numbers : List ℕ) (position : ℕ) (firsts nexts : 
   pub first : (n : ℕ) → IsLeastFrom numbers n position (place_at firsts n)
   pub next : (place n : ℕ) → position ≤ place → slice_get numbers place ≡ Some n → IsLeastFrom numbers n (place + 1) (place_at nexts place)
 
--- the first place at which the number stands and that no name of the allowed has, if there is one
-abbrev pub IsFirstBeyond : List ℕ → List Name → (Name → Bool) → ℕ → Option ℕ → Type 0
-IsFirstBeyond numbers names is_allowed n None = (k : ℕ) (v : Name) → slice_get numbers k ≡ Some n → slice_get names k ≡ Some v → is_allowed v ≡ true
-IsFirstBeyond numbers names is_allowed n (Some place) = (slice_get numbers place ≡ Some n) × ((v : Name) → slice_get names place ≡ Some v → is_allowed v ≡ false) × ((k : ℕ) (v : Name) → k < place → slice_get numbers k ≡ Some n → slice_get names k ≡ Some v → is_allowed v ≡ true)
+-- the first place at which the number stands and that is not allowed, if there is one
+abbrev pub IsFirstBeyond : List ℕ → (ℕ → Bool) → ℕ → Option ℕ → Type 0
+IsFirstBeyond numbers is_allowed n None = (k : ℕ) → slice_get numbers k ≡ Some n → is_allowed k ≡ true
+IsFirstBeyond numbers is_allowed n (Some place) = (slice_get numbers place ≡ Some n) × (is_allowed place ≡ false) × ((k : ℕ) → k < place → slice_get numbers k ≡ Some n → is_allowed k ≡ true)
 
--- whether the set has the name
-abbrev pub is_in : BTreeSet Name → Name → Bool
-is_in names v = set.contains (slice_cmp nat_cmp) names v
+-- of each island that was looked at the place is that of its first member that is not allowed, if there is one
+pub record HasLooked (numbers : List ℕ) (is_allowed : ℕ → Bool) (beyond : Beyond) : Type 0 where
+  pub looked : (n : ℕ) → is_marked beyond.looked.items n ≡ true → IsFirstBeyond numbers is_allowed n (place_at beyond.places.items n)
 
--- of each island that was looked at, the place is that of its first member that is none of the allowed, if there is one; of another there is no place
-pub record HasLooked (numbers : List ℕ) (names : List Name) (beyond : Beyond) : Type 0 where
-  pub looked : (n : ℕ) → set.contains nat_cmp beyond.looked n ≡ true → IsFirstBeyond numbers names (is_in beyond.allowed) n (get nat_cmp beyond.places n)
-  pub other : (n : ℕ) → set.contains nat_cmp beyond.looked n ≡ false → get nat_cmp beyond.places n ≡ None
-
--- ---- what islands hold over each of the first so many positions
+-- ---- what islands hold over each of the first so many names
 -- by the edges that are listed
-pub record AreHeldBy (numbers : List ℕ) (listed : Listed) (count : ℕ) (held : List (List Held)) : Type 0 where
+pub record AreHeldBy (vertices : List Name) (numbers : List ℕ) (listed : Listed) (names : List Name) (count : ℕ) (held : List (List Held)) : Type 0 where
   pub len : length held ≡ count
-  pub said : (target : ℕ) (entries : List Held) → slice_get held target ≡ Some entries → (right : Right) (number : ℕ) → IsSaid entries right number ↔ Leads numbers right number target listed
+  pub rising : (place : ℕ) (entries : List Held) → slice_get held place ≡ Some entries → AreRising entries
+  pub said : (place target : ℕ) (v : Name) (entries : List Held) → slice_get held place ≡ Some entries → slice_get names place ≡ Some v → position (bytes_eq v) vertices ≡ Some target → (right : Right) (number : ℕ) → IsSaid entries right number ↔ Leads numbers right number target listed
 
 -- by the edges of the graph
-pub record AreHeldOver (es : Entries) (numbers : List ℕ) (held : List (List Held)) : Type 0 where
+pub record AreHeldOver (es : Entries) (numbers : List ℕ) (names : List Name) (held : List (List Held)) : Type 0 where
   pub list : Listed
   pub listed : AreListed es list
-  pub by_edges : AreHeldBy numbers list (length (keys_of es)) held
+  pub by_edges : AreHeldBy (keys_of es) numbers list names (length names) held
 
 -- ---- an index
--- the numbers of the islands by position, what they hold over each position, the names in the order that is meant, and by their places the members of each island
+-- its graph, and the names in the order that is meant
 pub record CaseIndexed : Type 0 where
-  pub numbers : List ℕ
-  pub held : List (List Held)
+  pub graph : Entries
   pub names : List Name
-  pub firsts : List (Option ℕ)
-  pub nexts : List (Option ℕ)
 
--- they are those of the graph
-pub record IsCaseIndexOf (es : Entries) (index : CaseIndexed) : Type 0 where
-  pub islands : AreIslands (graph_of es) index.numbers
-  pub held : AreHeldOver es index.numbers index.held
-  pub by_name : List ℕ
-  pub numbered : AreNumbersOf (keys_of es) index.numbers index.names (length index.names) by_name
-  pub members : AreMembersFrom by_name 0 index.firsts index.nexts
+-- by the place of a name the number of its island and what islands hold over it, and the members of each island
+pub record IsIndexed (es : Entries) (names : List Name) (numbers : List ℕ) (held : List (List Held)) (firsts nexts : List (Option ℕ)) : Type 0 where
+  pub graph : IsGraph es
+  pub well_formed : WellFormed (graph_of es)
+  pub few : length (keys_of es) < 2 ^ 64
+  pub known : AreVertices (graph_of es) names
+  pub islands : List ℕ
+  pub are_islands : AreIslands (graph_of es) islands
+  pub numbered : AreNumbersOf (keys_of es) islands names (length names) numbers
+  pub below : (k n : ℕ) → slice_get numbers k ≡ Some n → n < length firsts
+  pub held_over : AreHeldOver es islands names held
+  pub members : AreMembersFrom numbers 0 firsts nexts

@@ -1,55 +1,68 @@
 //! An index of a graph, for the first case of a claim about sharing.
-ghost use Rattle.std.specs.Prelude.{◌≡◌, ◌↔◌, List, ℕ, None, Some, true, IsTrue, IfOk, OnOk, bytes_eq, length, position, slice_get};
+ghost use Rattle.std.specs.Prelude.{◌≡◌, ◌<◌, ℕ, None, Some, true, IfOk, List, length, slice_get};
 ghost use Rattle.std.specs.Map.{keys_of};
-ghost use Rattle.std.specs.List.{list_any};
-ghost use Rattle.std.specs.Ordering.{nat_cmp};
-ghost use Rattle.std.specs.BTreeSet.{contains};
-ghost use Rattle.tg_graph.specs.Graphs.{has_vertex};
 ghost use Rattle.tg_graph.specs.GraphOf.{graph_of};
 ghost use Rattle.tg_graph.specs.RuleLists.{CanShare};
 ghost use Rattle.tg_analysis.specs.declared.cases.Spot.{Spot};
 ghost use Rattle.tg_analysis.specs.declared.held.Held.{Held};
 ghost use Rattle.tg_analysis.specs.Numbering.{AreIslands};
 ghost use Rattle.tg_analysis.specs.ByTarget.{AreChained};
-ghost use Rattle.tg_analysis.specs.Cases.{AreMembersFrom, AreNumbersOf, AreHeldBy, AreHeldOver, AreVertices, CannotShare, CanShareBeyond, FindsFirst, HasLooked, IsCaseIndexOf, is_in};
+ghost use Rattle.tg_analysis.specs.Cases.{AreHeldBy, AreHeldOver, AreMembersFrom, AreNumbersAt, AreNumbersOf, ArePlaces, AreVertices, CannotShare, FindsFirst, HasLooked, StandsAt, StandsUnmarked, is_marked};
 
 use crate::by_target::EdgesByTarget;
 use crate::cases::{Case, Spot, earlier};
 use crate::edge_counts::edge_count;
 use crate::heads::Heads;
-use crate::held::{Held, HeldOver, joined, soonest, soonest_without};
-use crate::members::Members;
+use crate::held::{Held, HeldOver, soonest, soonest_without};
+use crate::members::{Members, is_marked};
 use crate::numbering::Islands;
 use crate::{joining, laws};
 use std::alloc::{AllocError, Global};
-use std::collections::{BTreeMap, BTreeSet};
 use std::marker::Model;
 use tg_graph::{Graph, Name, Rights};
 
-// The case at a spot.
-fn case_at(spot: Option<Spot>, xs: &[Name], ys: &[Name]) -> Option<Case>
+// The name at a place.
+fn name_of(names: &[Name], place: usize) -> Option<Name>
+    ensures { result ≡ slice_get names.now place }
+{
+    names.get(place).copied()
+}
+
+// The name at one of the places of a list.
+fn name_at(names: &[Name], places: &[usize], index: usize) -> Option<Name>
+    ensures { (v : List ℕ) → StandsAt names.now places.now index v → result ≡ Some v }
+{
+    name_of(names, *places.get(index)?)
+}
+
+// The case at a spot, where x and y are places in lists of places.
+fn case_at(names: &[Name], spot: Option<Spot>, xs: &[usize], ys: &[usize]) -> Option<Case>
     ensures none { spot ≡ None → result ≡ None }
-    ensures some { (s : Spot) (x y : List ℕ) → spot ≡ Some s → slice_get xs.now s.x ≡ Some x
-        → slice_get ys.now s.y ≡ Some y
+    ensures some { (s : Spot) (x y : List ℕ) → spot ≡ Some s → StandsAt names.now xs.now s.x x
+        → StandsAt names.now ys.now s.y y
         → result ≡ Some (record { right = s.right; x = x; y = y }) }
 {
     let spot = spot?;
     Some(Case {
         right: spot.right,
-        x: *xs.get(spot.x)?,
-        y: *ys.get(spot.y)?,
+        x: name_at(names, xs, spot.x)?,
+        y: name_at(names, ys, spot.y)?,
     })
 }
 
-// The names of a list, as a set.
-fn set_of(alloc: Global, names: &[Name]) -> Result<BTreeSet<Name>, AllocError>
-    ensures { IfOk result (λ set. (v : List ℕ) → is_in set v ≡ list_any (bytes_eq v) names.now) }
+// The same where x is the place of a name itself.
+fn case_of(names: &[Name], spot: Option<Spot>, ys: &[usize]) -> Option<Case>
+    ensures none { spot ≡ None → result ≡ None }
+    ensures some { (s : Spot) (x y : List ℕ) → spot ≡ Some s → slice_get names.now s.x ≡ Some x
+        → StandsAt names.now ys.now s.y y
+        → result ≡ Some (record { right = s.right; x = x; y = y }) }
 {
-    let mut set = BTreeSet::new(alloc);
-    for name in names {
-        set.insert(*name)?;
-    }
-    Ok(set)
+    let spot = spot?;
+    Some(Case {
+        right: spot.right,
+        x: name_of(names, spot.x)?,
+        y: name_at(names, ys, spot.y)?,
+    })
 }
 
 // The numbers of the islands of names, in turn.
@@ -74,70 +87,93 @@ fn numbers_of(
     Ok(numbers)
 }
 
-// Where the first member stands that is none of the allowed, of each island that was looked at. An island
-// without one has no place.
+// The numbers at places, in turn.
+fn numbers_at(alloc: Global, numbers: &[usize], places: &[usize]) -> Result<Vec<usize>, AllocError>
+    requires { ArePlaces (length numbers.now) places.now }
+    ensures { IfOk result (λ listed.
+        AreNumbersAt numbers.now places.now (length places.now) listed.items) }
+{
+    let mut listed = Vec::with_capacity(alloc, places.len())?;
+    for index in 0..places.len() {
+        listed.push(numbers[places[index]])?;
+    }
+    Ok(listed)
+}
+
+// What islands hold over the vertex at one of the places.
+fn entries_at(held: &[HeldOver], place: usize) -> &[Held]
+    requires { place < length held.now }
+    ensures { slice_get held.now place ≡ Some result.now }
+{
+    held[place].as_slice()
+}
+
+// Where the first member stands that is not allowed, of each island that was looked at.
 #[derive(Drop)]
 struct Beyond {
-    allowed: BTreeSet<Name>,
-    places: BTreeMap<usize, usize>,
-    looked: BTreeSet<usize>,
+    places: Vec<Option<usize>>,
+    looked: Vec<bool>,
 }
 
 impl Beyond {
     // Looks at an island, unless it did.
-    fn look(&mut self, members: &Members, number: usize) -> Result<(), AllocError>
-        ensures looked { OnOk result (IsTrue (contains nat_cmp self.new.looked number)) }
-        ensures kept { OnOk result ((n : ℕ) → IsTrue (contains nat_cmp self.old.looked n)
-            → IsTrue (contains nat_cmp self.new.looked n)) }
-        ensures allowed { self.new.allowed ≡ self.old.allowed }
-        ensures has { OnOk result ((numbers : List ℕ)
-            → length numbers ≡ length members.now.names.items
+    fn look(&mut self, members: &Members, allowed: &[bool], number: usize)
+        requires same { length self.old.looked.items ≡ length self.old.places.items }
+        ensures looked { number < length self.old.places.items
+            → is_marked self.new.looked.items number ≡ true }
+        ensures kept { (n : ℕ) → is_marked self.old.looked.items n ≡ true
+            → is_marked self.new.looked.items n ≡ true }
+        ensures len { length self.new.looked.items ≡ length self.old.looked.items }
+        ensures places { length self.new.places.items ≡ length self.old.places.items }
+        ensures has { (numbers : List ℕ)
             → AreMembersFrom numbers 0 members.now.firsts.items members.now.nexts.items
-            → HasLooked numbers members.now.names.items self.old
-            → HasLooked numbers members.now.names.items self.new) }
+            → HasLooked numbers (is_marked allowed.now) self.old
+            → HasLooked numbers (is_marked allowed.now) self.new }
     {
-        if self.looked.contains(&number) {
-            return Ok(());
+        if number >= self.places.len() || self.looked[number] {
+            return;
         }
-        if let Some(place) = members.first_beyond(number, &self.allowed) {
-            self.places.insert(number, place)?;
-        }
-        self.looked.insert(number)?;
-        Ok(())
+        self.looked[number] = true;
+        self.places[number] = members.first_beyond(number, allowed);
     }
 
     // Looks at the islands of entries.
-    fn look_at(&mut self, members: &Members, entries: &[Held]) -> Result<(), AllocError>
-        ensures looked { OnOk result ((place : ℕ) (entry : Held) → slice_get entries.now place ≡ Some entry
-            → IsTrue (contains nat_cmp self.new.looked entry.number)) }
-        ensures kept { OnOk result ((n : ℕ) → IsTrue (contains nat_cmp self.old.looked n)
-            → IsTrue (contains nat_cmp self.new.looked n)) }
-        ensures allowed { self.new.allowed ≡ self.old.allowed }
-        ensures has { OnOk result ((numbers : List ℕ)
-            → length numbers ≡ length members.now.names.items
+    fn look_at(&mut self, members: &Members, allowed: &[bool], entries: &[Held])
+        requires same { length self.old.looked.items ≡ length self.old.places.items }
+        ensures looked { (place : ℕ) (entry : Held) → slice_get entries.now place ≡ Some entry
+            → entry.number < length self.old.places.items
+            → is_marked self.new.looked.items entry.number ≡ true }
+        ensures len { length self.new.looked.items ≡ length self.old.looked.items }
+        ensures places { length self.new.places.items ≡ length self.old.places.items }
+        ensures has { (numbers : List ℕ)
             → AreMembersFrom numbers 0 members.now.firsts.items members.now.nexts.items
-            → HasLooked numbers members.now.names.items self.old
-            → HasLooked numbers members.now.names.items self.new) }
+            → HasLooked numbers (is_marked allowed.now) self.old
+            → HasLooked numbers (is_marked allowed.now) self.new }
     {
         for entry in entries {
-            self.look(members, entry.number)?;
+            self.look(members, allowed, entry.number);
         }
-        Ok(())
     }
 }
 
-// What islands hold by the edges over each of so many positions.
+// What islands hold by the edges over each of so many names.
 fn held_by(
     alloc: Global,
+    graph: &Graph,
     edges: &EdgesByTarget,
     islands: &Islands,
-    count: usize,
+    names: &[Name],
 ) -> Result<Vec<HeldOver>, AllocError>
-    requires { AreChained edges.now }
-    ensures { IfOk result (λ held. AreHeldBy islands.now edges.now count held.items) }
+    requires chained { AreChained edges.now }
+    requires known { AreVertices (graph_of graph.now) names.now }
+    ensures { IfOk result (λ held. AreHeldBy (keys_of graph.now) islands.now edges.now
+        names.now (length names.now) held.items) }
 {
-    let mut held = Vec::with_capacity(alloc, count)?;
-    for target in 0..count {
+    let mut held = Vec::with_capacity(alloc, names.len())?;
+    for place in 0..names.len() {
+        let Some(target) = graph.position(names[place]) else {
+            unreachable!();
+        };
         let entries = edges.held_into(alloc, islands, target)?;
         let joined = HeldOver::of(alloc, entries.as_slice())?;
         held.push(joined)?;
@@ -145,165 +181,157 @@ fn held_by(
     Ok(held)
 }
 
-// What islands hold over each vertex, by position.
+// What islands hold over each of these names.
 fn held_over_each(
     alloc: Global,
     graph: &Graph,
     islands: &Islands,
+    names: &[Name],
 ) -> Result<Vec<HeldOver>, AllocError>
-    ensures { IfOk result (λ held. AreHeldOver graph.now islands.now held.items) }
+    requires { AreVertices (graph_of graph.now) names.now }
+    ensures { IfOk result (λ held. AreHeldOver graph.now islands.now names.now held.items) }
 {
     let edges = EdgesByTarget::of(alloc, graph, edge_count(graph))?;
-    let held = held_by(alloc, &edges, islands, graph.len())?;
+    let held = held_by(alloc, graph, &edges, islands, names)?;
     Ok(held)
 }
 
 /// An index of a graph, for the first case of a claim about sharing: the first right in the order of the
-/// letters, then the first x, then the first y.
+/// letters, then the first x, then the first y. Who is meant is said by places in the index's list of names.
 ///
 /// It takes some 80 bytes a vertex and, for each island that holds a right over a vertex, 16. While it is made
-/// it takes 16 bytes an edge besides. What a call takes, in time and in memory, goes by the names that it is
-/// given and by the islands that hold rights over the ys.
+/// it takes 16 bytes an edge besides. What a call takes goes by the places that it is given, by the islands
+/// that hold rights over the ys, and by a few bytes for each island.
 #[derive(Drop)]
-pub struct CaseIndex {
-    islands: Islands,
+pub struct CaseIndex<'a> {
+    graph: &'a Graph,
+    names: Vec<Name>,
+    numbers: Vec<usize>,
     held: Vec<HeldOver>,
     members: Members,
 }
 
-impl Model for CaseIndex {
+impl<'a> Model for CaseIndex<'a> {
     ghost use Rattle.tg_analysis.specs.Cases as case;
 
     ghost Value = { case.CaseIndexed };
 
-    ghost view = { λ t. record {
-      numbers = t.islands;
-      held = t.held.items;
-      names = t.members.names.items;
-      firsts = t.members.firsts.items;
-      nexts = t.members.nexts.items;
-    } };
+    ghost view = { λ t. record { graph = t.graph.now; names = t.names.items } };
+
+    ghost invariant = { λ t. case.IsIndexed t.graph.now t.names.items t.numbers.items t.held.items
+        t.members.firsts.items t.members.nexts.items };
 }
 
-impl CaseIndex {
+impl<'a> CaseIndex<'a> {
     /// The index of a graph, with names of vertices in the order in which the first of them is meant where
     /// `first_beyond` looks for an x: it looks at no other.
     ///
     /// The one error is want of memory; a position of 2^32 or more, and the number of an edge of 2^32 - 1 or
     /// more, are refused as such.
-    pub fn of(alloc: Global, graph: &Graph, names: &[Name]) -> Result<CaseIndex, AllocError>
+    pub fn of(alloc: Global, graph: &'a Graph, names: &[Name]) -> Result<CaseIndex<'a>, AllocError>
         requires { AreVertices (graph_of graph.now) names.now }
-        ensures index { IfOk result (λ index. IsCaseIndexOf graph.now index) }
-        ensures names { IfOk result (λ index. index.names ≡ names.now) }
+        ensures { IfOk result (λ index.
+            index ≡ record { graph = graph.now; names = names.now }) }
     {
+        let _ = graph.len();
         let islands = joining::islands(alloc, graph)?;
-        let held = held_over_each(alloc, graph, &islands)?;
+        let held = held_over_each(alloc, graph, &islands, names)?;
         let numbers = numbers_of(alloc, graph, &islands, names)?;
-        let members = Members::of(alloc, names, numbers.as_slice(), islands.count())?;
+        let members = Members::of(alloc, numbers.as_slice(), islands.count())?;
         Ok(CaseIndex {
-            islands,
+            graph,
+            names: Vec::from_slice(alloc, names)?,
+            numbers,
             held,
             members,
         })
     }
 
-    // What islands hold over y.
-    fn entries_over(&self, graph: &Graph, y: Name) -> &[Held]
-        requires len { length self.now.held ≡ length (keys_of graph.now) }
-        requires known { has_vertex (graph_of graph.now) y ≡ true }
-        ensures { (target : ℕ) → position (bytes_eq y) (keys_of graph.now) ≡ Some target
-            → slice_get self.now.held target ≡ Some result.now }
+    /// The names of the index.
+    pub fn names(&self) -> &[Name]
+        ensures { result.now ≡ self.now.names }
     {
-        let Some(target) = graph.position(y) else {
-            unreachable!();
-        };
-        self.held[target].as_slice()
+        &self.names
     }
 
-    /// The first right of the set, x of `xs` and y of `ys`, each in the order of its list, such that some list of
-    /// rules gives x the right over y; `None` where there is none. The graph is that of the index, and the names
-    /// are its vertices. The error is want of memory.
+    /// The first right of the set, x of those at the places `xs` and y of those at `ys`, each in the order of
+    /// its list, such that some list of rules gives x the right over y; `None` where there is none. The error is
+    /// want of memory.
     pub fn first_shared(
         &self,
         alloc: Global,
-        graph: &Graph,
         rights: Rights,
-        xs: &[Name],
-        ys: &[Name],
+        xs: &[usize],
+        ys: &[usize],
     ) -> Result<Option<Case>, AllocError>
-        requires index { IsCaseIndexOf graph.now self.now }
-        requires xs { AreVertices (graph_of graph.now) xs.now }
-        requires ys { AreVertices (graph_of graph.now) ys.now }
-        ensures { IfOk result (FindsFirst (λ right x y. CanShare (graph_of graph.now) right x y) rights xs.now ys.now) }
+        requires xs { ArePlaces (length self.now.names) xs.now }
+        requires ys { ArePlaces (length self.now.names) ys.now }
+        ensures { IfOk result (FindsFirst (λ right x y. CanShare (graph_of self.now.graph) right x y)
+            rights (StandsAt self.now.names xs.now) (StandsAt self.now.names ys.now)) }
     {
         laws::shared_exactly();
-        let _ = graph.len();
-        let numbers = numbers_of(alloc, graph, &self.islands, xs)?;
-        let heads = Heads::of(alloc, numbers.as_slice())?;
+        let numbers = numbers_at(alloc, &self.numbers, xs)?;
+        let heads = Heads::of(alloc, numbers.as_slice(), self.members.firsts.len())?;
         let mut spot = None;
-        for place in 0..ys.len() {
-            let held = self.entries_over(graph, ys[place]);
-            let next = soonest(held, &heads.places, rights);
-            spot = earlier(spot, next, place);
+        for index in 0..ys.len() {
+            let entries = entries_at(&self.held, ys[index]);
+            let next = soonest(entries, &heads.places, rights);
+            spot = earlier(spot, next, index);
         }
-        Ok(case_at(spot, xs, ys))
+        Ok(case_at(&self.names, spot, xs, ys))
     }
 
     /// The same where no list of rules gives x the right over y.
     pub fn first_unshared(
         &self,
         alloc: Global,
-        graph: &Graph,
         rights: Rights,
-        xs: &[Name],
-        ys: &[Name],
+        xs: &[usize],
+        ys: &[usize],
     ) -> Result<Option<Case>, AllocError>
-        requires index { IsCaseIndexOf graph.now self.now }
-        requires xs { AreVertices (graph_of graph.now) xs.now }
-        requires ys { AreVertices (graph_of graph.now) ys.now }
-        ensures { IfOk result (FindsFirst (CannotShare (graph_of graph.now)) rights xs.now ys.now) }
+        requires xs { ArePlaces (length self.now.names) xs.now }
+        requires ys { ArePlaces (length self.now.names) ys.now }
+        ensures { IfOk result (FindsFirst (CannotShare (graph_of self.now.graph))
+            rights (StandsAt self.now.names xs.now) (StandsAt self.now.names ys.now)) }
     {
         laws::shared_exactly();
-        let _ = graph.len();
-        let numbers = numbers_of(alloc, graph, &self.islands, xs)?;
-        let heads = Heads::of(alloc, numbers.as_slice())?;
+        let numbers = numbers_at(alloc, &self.numbers, xs)?;
+        let heads = Heads::of(alloc, numbers.as_slice(), self.members.firsts.len())?;
         let mut spot = None;
-        for place in 0..ys.len() {
-            let sums = joined(alloc, self.entries_over(graph, ys[place]))?;
-            let next = soonest_without(&sums, numbers.as_slice(), &heads, rights);
-            spot = earlier(spot, next, place);
+        for index in 0..ys.len() {
+            let entries = entries_at(&self.held, ys[index]);
+            let next = soonest_without(entries, numbers.as_slice(), &heads, rights);
+            spot = earlier(spot, next, index);
         }
-        Ok(case_at(spot, xs, ys))
+        Ok(case_at(&self.names, spot, xs, ys))
     }
 
-    /// The same where some list of rules gives x the right over y, and x is one of the index's names and none of
-    /// the allowed, which need not be vertices.
+    /// The same where some list of rules gives x the right over y, and x is one of the index's names whose place
+    /// is not marked as allowed; a place behind the last mark is not.
     pub fn first_beyond(
         &self,
         alloc: Global,
-        graph: &Graph,
         rights: Rights,
-        ys: &[Name],
-        allowed: &[Name],
+        ys: &[usize],
+        allowed: &[bool],
     ) -> Result<Option<Case>, AllocError>
-        requires index { IsCaseIndexOf graph.now self.now }
-        requires ys { AreVertices (graph_of graph.now) ys.now }
-        ensures { IfOk result (FindsFirst (CanShareBeyond (graph_of graph.now) allowed.now) rights self.now.names ys.now) }
+        requires { ArePlaces (length self.now.names) ys.now }
+        ensures { IfOk result (FindsFirst (λ right x y. CanShare (graph_of self.now.graph) right x y)
+            rights (StandsUnmarked self.now.names allowed.now) (StandsAt self.now.names ys.now)) }
     {
         laws::shared_exactly();
-        let _ = graph.len();
+        let count = self.members.firsts.len();
         let mut beyond = Beyond {
-            allowed: set_of(alloc, allowed)?,
-            places: BTreeMap::new(alloc),
-            looked: BTreeSet::new(alloc),
+            places: vec![in alloc; None; count]?,
+            looked: vec![in alloc; false; count]?,
         };
         let mut spot = None;
-        for place in 0..ys.len() {
-            let held = self.entries_over(graph, ys[place]);
-            beyond.look_at(&self.members, held)?;
-            let next = soonest(held, &beyond.places, rights);
-            spot = earlier(spot, next, place);
+        for index in 0..ys.len() {
+            let entries = entries_at(&self.held, ys[index]);
+            beyond.look_at(&self.members, allowed, entries);
+            let next = soonest(entries, &beyond.places, rights);
+            spot = earlier(spot, next, index);
         }
-        Ok(case_at(spot, self.members.names.as_slice(), ys))
+        Ok(case_of(&self.names, spot, ys))
     }
 }

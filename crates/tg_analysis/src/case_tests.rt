@@ -1,7 +1,7 @@
 // The first cases of claims about sharing: values worked by hand, and agreement with the answers one by one.
 ghost use Rattle.std.specs.Prelude.{IsTrue};
 ghost use Rattle.tg_graph.specs.GraphOf.{graph_of};
-ghost use Rattle.tg_analysis.specs.Cases.{AreVertices};
+ghost use Rattle.tg_analysis.specs.Cases.{ArePlaces, AreVertices};
 
 use crate::case_index::CaseIndex;
 use crate::cases::Case;
@@ -54,6 +54,51 @@ fn are_vertices(graph: &Graph, names: &[Name]) -> bool
     true
 }
 
+// Whether each is a place of a list of so many.
+fn are_places(count: usize, places: &[usize]) -> bool
+    ensures { IsTrue result → ArePlaces count places.now }
+{
+    for place in places {
+        if *place >= count {
+            return false;
+        }
+    }
+    true
+}
+
+// The place of a name among the names of an index.
+fn place_of(rt: &impl Abort, names: &[Name], wanted: Name) -> usize {
+    for place in 0..names.len() {
+        if names[place] == wanted {
+            return place;
+        }
+    }
+    panic!(rt; "a name of the index")
+}
+
+// The first places of names among the names of an index.
+fn places_of(
+    rt: &impl Abort,
+    alloc: Global,
+    names: &[Name],
+    wanted: &[Name],
+) -> Result<Vec<usize>, AllocError> {
+    let mut places = Vec::new(alloc);
+    for name in wanted {
+        places.push(place_of(rt, names, *name))?;
+    }
+    Ok(places)
+}
+
+// A mark for each of the names that is one of the allowed.
+fn marks_of(alloc: Global, names: &[Name], allowed: &[Name]) -> Result<Vec<bool>, AllocError> {
+    let mut marks = Vec::new(alloc);
+    for name in names {
+        marks.push(is_among(allowed, *name))?;
+    }
+    Ok(marks)
+}
+
 /// The first case by an index with these names: of shared and unshared ones for xs and ys, of those beyond
 /// for ys and the allowed.
 pub(crate) fn found(
@@ -66,19 +111,19 @@ pub(crate) fn found(
     one: &[Name],
     other: &[Name],
 ) -> Result<Option<Case>, AllocError> {
+    let places = places_of(rt, alloc, names, one)?;
     assert!(rt; are_vertices(graph, names));
-    assert!(rt; are_vertices(graph, one));
+    assert!(rt; are_places(names.len(), &places));
     let index = CaseIndex::of(alloc, graph, names)?;
+    if let Kind::Beyond = kind {
+        let allowed = marks_of(alloc, names, other)?;
+        return index.first_beyond(alloc, rights, &places, &allowed);
+    }
+    let others = places_of(rt, alloc, names, other)?;
+    assert!(rt; are_places(names.len(), &others));
     match kind {
-        Kind::Shared => {
-            assert!(rt; are_vertices(graph, other));
-            index.first_shared(alloc, graph, rights, one, other)
-        }
-        Kind::Unshared => {
-            assert!(rt; are_vertices(graph, other));
-            index.first_unshared(alloc, graph, rights, one, other)
-        }
-        Kind::Beyond => index.first_beyond(alloc, graph, rights, one, other),
+        Kind::Shared => index.first_shared(alloc, rights, &places, &others),
+        _ => index.first_unshared(alloc, rights, &places, &others),
     }
 }
 
@@ -97,16 +142,7 @@ fn assert_found_among(
     let order = names(rt, alloc, order);
     let (one, other) = (names(rt, alloc, one), names(rt, alloc, other));
     let rights = set(rt, letters);
-    let found = found(
-        rt,
-        alloc,
-        graph,
-        order.as_slice(),
-        kind,
-        rights,
-        one.as_slice(),
-        other.as_slice(),
-    );
+    let found = found(rt, alloc, graph, &order, kind, rights, &one, &other);
     assert!(rt; found == Ok(case(rt, wanted)));
 }
 
@@ -223,14 +259,14 @@ fn names_that_stand_twice(rt: HostRuntime) {
 fn an_index_of_some_names(rt: HostRuntime) {
     let g = four_islands(&rt, rt.alloc());
     let cases = [
-        ("b c d", "r", "e", "", "r c e"),
-        ("b c d", "r", "e", "c", ""),
-        ("d b", "w", "f", "", "w d f"),
-        ("d b", "w", "f", "d", "w b f"),
-        ("e a", "w", "f", "d", "w e f"),
-        ("a c", "w", "f", "", ""),
-        ("f", "tgrwead", "a b c d e f", "", ""),
-        ("", "tgrwead", "a b c d e f", "", ""),
+        ("b c d e", "r", "e", "", "r c e"),
+        ("b c d e", "r", "e", "c", ""),
+        ("d b f", "w", "f", "", "w d f"),
+        ("d b f", "w", "f", "d", "w b f"),
+        ("e a f", "w", "f", "d", "w e f"),
+        ("a c f", "w", "f", "", ""),
+        ("f", "tgrwead", "f", "", ""),
+        ("", "tgrwead", "", "", ""),
     ];
     for (order, letters, ys, allowed, wanted) in &cases {
         assert_found_among(

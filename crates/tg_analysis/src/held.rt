@@ -1,11 +1,13 @@
 //! What islands hold over one vertex, edge by edge.
-ghost use Rattle.std.specs.Prelude.{◌≡◌, ◌↔◌, ◌<◌, ◌+◌, ℕ, Some, IfOk, OnOk, length, slice_get};
+ghost use Rattle.std.specs.Prelude.{◌≡◌, ◌↔◌, ◌<◌, ◌+◌, ℕ, Some, IfOk, OnOk, IsTrue, length, slice_get};
 ghost use Rattle.tg_graph.specs.declared.right_sets.Right.{Right};
-ghost use Rattle.tg_analysis.specs.Cases.{IsSoonest, IsClaimOf, IsClaim, rights_under, JoinsUpTo, IsFirstWithout, IsClaimWithout, IsLackOf, IsSaid, AreHeads};
+ghost use Rattle.tg_graph.specs.Sets.{member};
+ghost use Rattle.tg_analysis.specs.Cases.{AreHeads, AreRising, IsClaim, IsClaimOf, IsClaimWithout, IsFirstWithout, IsLackOf, IsSaid, IsSoonest, JoinsUpTo, rights_under};
 
 use crate::cases::{Claimed, first_in_both, sooner};
 use crate::heads::Heads;
 use crate::holders::named;
+use crate::members::place_at;
 use bitflags::Flags;
 use std::alloc::{AllocError, Global};
 use std::collections::BTreeMap;
@@ -22,20 +24,16 @@ pub(crate) struct Held {
 }
 
 // The first right of the set that an entry says, with the place that stands for its island.
-fn claim_of(entry: Held, places: &BTreeMap<usize, usize>, rights: Rights) -> Option<Claimed>
+fn claim_of(entry: Held, places: &[Option<usize>], rights: Rights) -> Option<Claimed>
     ensures { IsSoonest (IsClaimOf entry places.now rights) result }
 {
     let right = first_in_both(entry.label, rights)?;
-    let place = places.get(&entry.number).copied()?;
+    let place = place_at(places, entry.number)?;
     Some(Claimed { right, place })
 }
 
 /// The soonest right of the set that an entry says, with the place that stands for its island.
-pub(crate) fn soonest(
-    entries: &[Held],
-    places: &BTreeMap<usize, usize>,
-    rights: Rights,
-) -> Option<Claimed>
+pub(crate) fn soonest(entries: &[Held], places: &[Option<usize>], rights: Rights) -> Option<Claimed>
     ensures { IsSoonest (IsClaim entries.now places.now rights (length entries.now)) result }
 {
     let mut best = None;
@@ -71,8 +69,8 @@ fn add_entry(
     Ok(())
 }
 
-/// The rights that entries say, by the numbers of their islands.
-pub(crate) fn joined(alloc: Global, entries: &[Held]) -> Result<BTreeMap<usize, Rights>, AllocError>
+// The rights that entries say, by the numbers of their islands.
+fn joined(alloc: Global, entries: &[Held]) -> Result<BTreeMap<usize, Rights>, AllocError>
     ensures { IfOk result (λ held. JoinsUpTo entries.now (length entries.now) held) }
 {
     let mut held = BTreeMap::new(alloc);
@@ -82,7 +80,7 @@ pub(crate) fn joined(alloc: Global, entries: &[Held]) -> Result<BTreeMap<usize, 
     Ok(held)
 }
 
-/// What islands hold over one vertex, an entry for each island.
+/// What islands hold over one vertex, an entry for each island, in rising order of their numbers.
 ///
 /// A contract sees it as the list of the entries.
 #[derive(Drop)]
@@ -102,8 +100,9 @@ impl Model for HeldOver {
 impl HeldOver {
     /// What entries say, of which many may be of one island.
     pub(crate) fn of(alloc: Global, entries: &[Held]) -> Result<HeldOver, AllocError>
-        ensures { IfOk result (λ held. (right : Right) (number : ℕ)
+        ensures said { IfOk result (λ held. (right : Right) (number : ℕ)
             → IsSaid held right number ↔ IsSaid entries.now right number) }
+        ensures rising { IfOk result AreRising }
     {
         let sums = joined(alloc, entries)?;
         let mut held = Vec::with_capacity(alloc, sums.len())?;
@@ -124,19 +123,32 @@ impl HeldOver {
     }
 }
 
+// The rights that the entry of an island says.
+fn label_of(entries: &[Held], number: usize) -> Rights
+    requires { AreRising entries.now }
+    ensures { (right : Right) → IsTrue (member result right) ↔ IsSaid entries.now right number }
+{
+    match entries.binary_search_by_key(&number, |entry| entry.number) {
+        Ok(place) => entries[place].label,
+        Err(_) => Rights::empty(),
+    }
+}
+
 // The first of the places at which stands the number of an island that lacks the right.
 fn place_without(
-    held: &BTreeMap<usize, Rights>,
+    entries: &[Held],
     numbers: &[usize],
     places: &[usize],
     right: Right,
 ) -> Option<usize>
-    requires { (t place : ℕ) → slice_get places.now t ≡ Some place → place < length numbers.now }
-    ensures { IsFirstWithout held.now numbers.now places.now right result }
+    requires rising { AreRising entries.now }
+    requires within { (t place : ℕ) → slice_get places.now t ≡ Some place
+        → place < length numbers.now }
+    ensures { IsFirstWithout entries.now numbers.now places.now right result }
 {
     for index in 0..places.len() {
         let place = places[index];
-        if !rights_under(held, numbers[place]).has(right) {
+        if !label_of(entries, numbers[place]).has(right) {
             return Some(place);
         }
     }
@@ -145,34 +157,38 @@ fn place_without(
 
 // The same, if the right is one of the set.
 fn claim_without(
-    held: &BTreeMap<usize, Rights>,
+    entries: &[Held],
     numbers: &[usize],
     places: &[usize],
     rights: Rights,
     right: Right,
 ) -> Option<Claimed>
-    requires { (t place : ℕ) → slice_get places.now t ≡ Some place → place < length numbers.now }
-    ensures { IsClaimWithout held.now numbers.now places.now rights right result }
+    requires rising { AreRising entries.now }
+    requires within { (t place : ℕ) → slice_get places.now t ≡ Some place
+        → place < length numbers.now }
+    ensures { IsClaimWithout entries.now numbers.now places.now rights right result }
 {
     if !rights.has(right) {
         return None;
     }
-    let place = place_without(held, numbers, places, right)?;
+    let place = place_without(entries, numbers, places, right)?;
     Some(Claimed { right, place })
 }
 
 /// The soonest right of the set that an island lacks, with the first place at which its number stands.
 pub(crate) fn soonest_without(
-    held: &BTreeMap<usize, Rights>,
+    entries: &[Held],
     numbers: &[usize],
     heads: &Heads,
     rights: Rights,
 ) -> Option<Claimed>
-    requires { AreHeads numbers.now (length numbers.now) heads.now.places heads.now.order.items }
-    ensures { IsSoonest (IsLackOf held.now numbers.now rights) result }
+    requires rising { AreRising entries.now }
+    requires heads { AreHeads numbers.now (length numbers.now)
+        heads.now.places.items heads.now.order.items }
+    ensures { IsSoonest (IsLackOf entries.now numbers.now rights) result }
 {
     for right in &Right::ALL {
-        let claim = claim_without(held, numbers, heads.order.as_slice(), rights, *right);
+        let claim = claim_without(entries, numbers, heads.order.as_slice(), rights, *right);
         if claim.is_some() {
             return claim;
         }

@@ -1,4 +1,4 @@
-use Rattle.std.proofs.Common.{◌≡◌, false, true≢false, get_or, ap, sym, ◌∙◌, subst, arith}
+use Rattle.std.proofs.Common.{get_or, ap, sym, ◌∙◌, subst, arith}
 use Rattle.tg_graph.specs.declared.right_sets.Right.TheVariants.{T}
 use Rattle.tg_graph.specs.Letters.{all_rights}
 use Rattle.tg_graph.specs.Graphs.{Name}

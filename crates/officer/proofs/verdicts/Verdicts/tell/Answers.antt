@@ -1,25 +1,36 @@
-use Rattle.std.proofs.Common.{◌≡◌, List, ◌||◌, ◌&&◌, bytes_eq, refl, sym, ap, ◌∙◌}
+use Rattle.std.proofs.Common.{◌≡◌, ◌≤◌, List, ◌||◌, ◌&&◌, length, refl, sym, ap, subst, ◌∙◌, arith}
 use Rattle.std.specs.List.{list_any}
 use Rattle.tg_graph.specs.Graphs.{Name, same_name}
 use Rattle.tg_graph.specs.GraphOf.{graph_of}
 use Rattle.tg_text.specs.declared.policy_text.Operand.{Operand}
-use Rattle.tg_text.specs.PolicyText.{line_of_policy}
+use Rattle.tg_text.specs.Canonical.{in_name_order}
+use Rattle.tg_text.specs.PolicyText.{lacks_vertex, line_of_policy}
 use Rattle.officer.specs.declared.verdicts.Verdicts.{Verdicts}
 use Rattle.officer.specs.Policies.{some_stands_for}
-use Rattle.officer.specs.PolicyParts.{membership}
+use Rattle.officer.specs.PolicyParts.{is_marked_name, membership, members_in}
+use Rattle.officer.proofs.FirstBreaks.{known-all, strict-names}
 use Rattle.officer.proofs.ToldLines.{told-claim, told-group}
 use Rattle.officer.proofs.verdicts.Verdicts.tell.Goals as goal
+
+pub marks_of-requires-clause-order : goal.marks_of-requires-clause-order
+marks_of-requires-clause-order c = strict-names (graph_of c.args.graph.now) c.names.result.now (c.names.ensures ∙ c.requires.names)
+
+pub marks_of-requires-clause-known : goal.marks_of-requires-clause-known
+marks_of-requires-clause-known c = known-all (graph_of c.args.graph.now) c.names.result.now (c.names.ensures ∙ c.requires.names) c.deref.result.now (ap (list_any (lacks_vertex (graph_of c.args.graph.now))) c.deref.ensures.value ∙ c.requires.known)
 
 pub returns-in-Group : goal.returns-in-Group
 returns-in-Group c = λ lines told.
     let g = graph_of c.args.graph.now in
+    let vs = in_name_order g.vertices in
     let old = c.args.self.now in
     let new : Verdicts = record { groups = c.join.new.self; text = old.text; broken = old.broken } in
     let line = line_of_policy c.args.line.now in
-    let names = c.in_ok-names.names.items in
-    let named = λ (v : Name). c.in_ok-names.ensures v ∙ ap (λ (operands : List Operand). some_stands_for (membership old.groups) operands v) c.deref.ensures.value in
-    let joined = λ (n v : Name). c.in_ok-join.ensures n v ∙ ap (λ (l : List Name). membership old.groups n v || (same_name n c.in-Group.name && list_any (bytes_eq v) l)) c.deref-in-Group.ensures.value in
-    told-group c.args.why g lines old new line told c.in-Group.name names c.in-Group.is named joined refl refl c.requires.known
+    let marks = c.in_ok-marks.marks.items in
+    let all = c.names.ensures ∙ c.requires.names in
+    let each = subst (λ (l : List Name). (v : Name) → is_marked_name l marks v ≡ some_stands_for (membership l old.groups) c.deref.result.now v) all c.in_ok-marks.ensures.each in
+    let marked = λ (v : Name). each v ∙ ap (λ (operands : List Operand). some_stands_for (members_in g old.groups) operands v) c.deref.ensures.value in
+    let len : length vs ≤ length marks = (let same = c.in_ok-marks.ensures.len in let lengths = ap length all in omega arith) in
+    told-group c.args.why g lines old new line told c.in-Group.name (is_marked_name vs marks) c.in-Group.is marked (c.in_ok-join.ensures vs len) refl refl
 
 pub returns : goal.returns
 returns c = λ lines told.

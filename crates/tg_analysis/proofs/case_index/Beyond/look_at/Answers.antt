@@ -1,4 +1,4 @@
-use Rattle.std.proofs.Common.{length, get_or, ◌∙◌, arith}
+use Rattle.std.proofs.Common.{length, get_or, ◌<◌, sym, subst, ◌∙◌, arith}
 use Rattle.std.proofs.lemmas.Option.{slice_get_within, slice_get-get_or}
 use Rattle.tg_analysis.specs.declared.held.Held.{Held}
 use Rattle.tg_analysis.proofs.Claims.{no_entry}
@@ -12,15 +12,15 @@ loop-entry-preserved c =
     let entry : Held = get_or entries index no_entry in
     let here = slice_get-get_or entries index no_entry c.loop-entry-test.true in
     let before = c.loop-entry.invariant in
-    let looks = c.in_ok-look.ensures in
+    let looks = c.look.ensures in
     record {
-      looked = all-looked-more entries index entry c.loop-entry.self.looked c.look.new.self.looked here before.looked looks.kept looks.looked;
-      kept = λ n h. looks.kept n (before.kept n h);
-      allowed = looks.allowed ∙ before.allowed;
-      has = λ numbers len members has. looks.has numbers len members (before.has numbers len members has);
+      looked = all-looked-more entries index (length c.args.self.now.places.items) entry c.loop-entry.self.looked.items c.look.new.self.looked.items here before.looked looks.kept (λ low. looks.looked (subst (λ n. entry.number < n) (sym before.places) low));
+      len = looks.len ∙ before.len;
+      places = looks.places ∙ before.places;
+      has = λ numbers members has. looks.has numbers members (before.has numbers members has);
     }
 
 pub returns-clause-looked : goal.returns-clause-looked
-returns-clause-looked c = λ place entry h.
+returns-clause-looked c = λ place entry h within.
     let end = c.loop-entry-test.false in
-    c.loop-entry.invariant.looked place entry (let low = slice_get_within c.args.entries.now place entry h in omega arith) h
+    c.loop-entry.invariant.looked place entry (let low = slice_get_within c.args.entries.now place entry h in omega arith) h within

@@ -1,4 +1,4 @@
-use Rattle.std.proofs.Common.{◌≡◌, ℕ, map}
+use Rattle.std.proofs.Common.{◌≡◌, map}
 use Rattle.std.specs.Map.Iter.{deref_pair}
 use Rattle.tg_analysis.proofs.HeldEntries.{entry_of}
 use Rattle.tg_analysis.proofs.held.HeldOver.of.Given as goal

@@ -6,5 +6,4 @@ abbrev pub invariant-loop-done : goal.invariant-loop-done
 invariant-loop-done l = record {
   members : AreMembersFrom l.numbers (length l.numbers - l.done) l.members.firsts.items l.members.nexts.items;
   len : length l.members.firsts.items ≡ l.count;
-  names : l.members.names.items ≡ l.names;
 }
