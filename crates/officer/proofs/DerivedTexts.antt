@@ -9,7 +9,7 @@ use Rattle.tg_graph.specs.Limits.{most_vertices}
 use Rattle.tg_graph.specs.Rules.{after}
 use Rattle.tg_graph.specs.RuleWords.{IsRule}
 use Rattle.tg_graph.specs.RuleLists.{AllAccepted, after_all}
-use Rattle.tg_graph.proofs.Digits.{name-decimal}
+use Rattle.tg_names.proofs.Digits.{name-decimal}
 use Rattle.tg_text.specs.declared.faults.TextKind.{TextKind}
 use Rattle.tg_text.specs.GraphText.{graph_text}
 use Rattle.tg_text.specs.Limits.{most_line_bytes}

@@ -2,10 +2,11 @@
 use Rattle.std.proofs.Common.{◌≡◌, ◌⊎◌, ℕ, Bool, true, false, cond, ◌||◌, List, [], ◌∷◌, ◌++◌, refl, sym, ◌∙◌, ap, inl, inr, filter, map, subst}
 use Rattle.std.specs.Prelude.{Result, Ok, Err}
 use Rattle.std.specs.List.{flat_map}
-use Rattle.tg_graph.specs.declared.right_sets.Rights.{Rights}
-use Rattle.tg_graph.specs.Sets.{member}
-use Rattle.tg_graph.specs.Graphs.{Name, ProtectionGraph, has_vertex}
-use Rattle.tg_graph.proofs.Sets.{same_set}
+use Rattle.tg_names.specs.declared.right_sets.Rights.{Rights}
+use Rattle.tg_names.specs.Sets.{member}
+use Rattle.tg_names.specs.Names.{Name}
+use Rattle.tg_graph.specs.Graphs.{ProtectionGraph, has_vertex}
+use Rattle.tg_names.proofs.Sets.{same_set}
 use Rattle.tg_text.specs.Canonical.{in_name_order}
 use Rattle.tg_text.proofs.NameOrder.{among, among-in_order, same_name-refl}
 use Rattle.officer.specs.Calls.{Case, Check, Apply, Islands, Share, Derive, Table, Run, Who, Reach, Verify}

@@ -5,8 +5,9 @@ use Rattle.std.specs.List.{list_any}
 use Rattle.std.proofs.lemmas.List.{append-nil, take_more, map-append}
 use Rattle.std.proofs.lemmas.List.Folds.{list_any_none}
 use Rattle.std.proofs.lemmas.Option.{slice_get_within, slice_get-map, get_or_from_slice_get}
-use Rattle.tg_graph.specs.Letters.{letter_of}
-use Rattle.tg_graph.specs.Graphs.{Name, same_name, ProtectionGraph, has_vertex}
+use Rattle.tg_names.specs.Letters.{letter_of}
+use Rattle.tg_names.specs.Names.{Name, same_name}
+use Rattle.tg_graph.specs.Graphs.{ProtectionGraph, has_vertex}
 use Rattle.tg_text.specs.declared.policy_text.Operand.{Operand}
 use Rattle.tg_text.specs.declared.policy_text.Operand.TheVariants as operand
 use Rattle.tg_text.specs.declared.policy_text.Claim.{Claim}

@@ -8,8 +8,9 @@ use Rattle.std.specs.Ordering.{ordering_reverse}
 use Rattle.std.proofs.lemmas.Bool.{eqb-true}
 use Rattle.std.proofs.lemmas.List.{append-nil}
 use Rattle.std.proofs.lemmas.List.Sums.{sum_by-cons, sum_by_push}
-use Rattle.tg_graph.specs.Sets.{bit_of}
-use Rattle.tg_graph.specs.Graphs.{Name, ProtectionGraph}
+use Rattle.tg_names.specs.Sets.{bit_of}
+use Rattle.tg_names.specs.Names.{Name}
+use Rattle.tg_graph.specs.Graphs.{ProtectionGraph}
 use Rattle.tg_text.specs.declared.policy_text.Operand.{Operand}
 use Rattle.tg_text.specs.declared.policy_text.Claim.{Claim}
 use Rattle.tg_text.specs.PolicyText.{PolicyLineOf}

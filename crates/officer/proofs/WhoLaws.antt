@@ -1,12 +1,13 @@
 -- What `who` and `reach` print is a column and a row of the table.
 use Rattle.std.proofs.Common.{◌≡◌, ℕ, Bool, true, List, refl, sym, ◌∙◌, ap}
 use Rattle.std.specs.Prelude.{Some}
-use Rattle.tg_graph.specs.declared.right_sets.Right.{Right}
-use Rattle.tg_graph.specs.declared.right_sets.Rights.{Rights}
-use Rattle.tg_graph.specs.Sets.{member, rights_where}
-use Rattle.tg_graph.specs.Letters.{set_of_right}
-use Rattle.tg_graph.specs.Graphs.{Name, ProtectionGraph, has_vertex}
-use Rattle.tg_graph.proofs.Sets.{member-where, named-where}
+use Rattle.tg_names.specs.declared.right_sets.Right.{Right}
+use Rattle.tg_names.specs.declared.right_sets.Rights.{Rights}
+use Rattle.tg_names.specs.Sets.{member, rights_where}
+use Rattle.tg_names.specs.Letters.{set_of_right}
+use Rattle.tg_names.specs.Names.{Name}
+use Rattle.tg_graph.specs.Graphs.{ProtectionGraph, has_vertex}
+use Rattle.tg_names.proofs.Sets.{member-where, named-where}
 use Rattle.tg_text.specs.Canonical.{in_name_order}
 use Rattle.tg_text.proofs.NameOrder.{among, among-in_order}
 use Rattle.tg_analysis.proofs.OneRight.{the_one, as_set}

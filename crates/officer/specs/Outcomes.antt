@@ -2,11 +2,12 @@
 use Rattle.std.specs.Prelude.{◌≡◌, if◌then◌else◌, ⊤, All, ◌<◌, ℕ, nat_eq, bytes_eq, position, map, filter, option_and_then, Bool, true, false, unwrap_or, List, [], ◌∷◌, ◌++◌, ◌≤◌, length, slice_index_or, slice_get, Option, Some, None, Result, Ok, Err}
 use Rattle.std.specs.List.{flat_map}
 use Rattle.std.specs.Option.{option_eq, option_map_or}
-use Rattle.tg_graph.specs.declared.right_sets.Rights.{Rights}
+use Rattle.tg_names.specs.declared.right_sets.Rights.{Rights}
 use Rattle.tg_graph.specs.declared.rules.Refusal.{Refusal}
 use Rattle.tg_graph.specs.declared.session.Reply.TheVariants.{Done, Refused}
-use Rattle.tg_graph.specs.Sets.{nothing}
-use Rattle.tg_graph.specs.Graphs.{Name, ProtectionGraph, has_vertex}
+use Rattle.tg_names.specs.Sets.{nothing}
+use Rattle.tg_names.specs.Names.{Name}
+use Rattle.tg_graph.specs.Graphs.{ProtectionGraph, has_vertex}
 use Rattle.tg_graph.specs.GraphOf.{graph_of}
 use Rattle.tg_graph.specs.Limits.{most_vertices, most_cells, most_seats}
 use Rattle.tg_graph.specs.Rules.{refusal_of, after}

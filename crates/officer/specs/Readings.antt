@@ -1,10 +1,10 @@
 -- What the texts and the words of a command give, or the report of the first fault.
 use Rattle.std.specs.Prelude.{ℕ, List, [], ◌∷◌, codes, decimal, Result, Ok, Err, is_ok, ok_or, if◌then◌else◌, nat_eq, nat_lt, ◌||◌}
-use Rattle.tg_graph.specs.declared.right_sets.Right.{Right}
-use Rattle.tg_graph.specs.declared.right_sets.Rights.{Rights}
-use Rattle.tg_graph.specs.Letters.{set_of_letters}
-use Rattle.tg_graph.specs.Names.{name_of}
-use Rattle.tg_graph.specs.Graphs.{Name, ProtectionGraph, has_vertex}
+use Rattle.tg_names.specs.declared.right_sets.Right.{Right}
+use Rattle.tg_names.specs.declared.right_sets.Rights.{Rights}
+use Rattle.tg_names.specs.Letters.{set_of_letters}
+use Rattle.tg_names.specs.Names.{name_of, Name}
+use Rattle.tg_graph.specs.Graphs.{ProtectionGraph, has_vertex}
 use Rattle.tg_text.specs.declared.faults.TextKind.{TextKind}
 use Rattle.tg_text.specs.declared.faults.TextKind.TheVariants as kind
 use Rattle.tg_text.specs.declared.rule_text.RuleLine.{RuleLine}

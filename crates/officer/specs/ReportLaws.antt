@@ -2,11 +2,12 @@
 use Rattle.std.specs.Prelude.{◌≡◌, Bool, true, false, ◌<◌, ◌≤◌, ◌⊎◌, ◌↔◌, IsTrue, ℕ, List, [], ◌∷◌, ◌++◌, length, map, filter, take, slice_get, Some, MatchOption, Result, Ok, Err}
 use Rattle.std.specs.List.{flat_map, list_any, AllByRecursion}
 use Rattle.tg_graph.specs.declared.rules.Refusal.{Refusal}
-use Rattle.tg_graph.specs.declared.right_sets.Right.{Right}
+use Rattle.tg_names.specs.declared.right_sets.Right.{Right}
 use Rattle.tg_graph.specs.declared.rules.Rule.{Rule}
-use Rattle.tg_graph.specs.Sets.{member, rights_where}
-use Rattle.tg_graph.specs.Letters.{set_of_right}
-use Rattle.tg_graph.specs.Graphs.{Name, same_name, ProtectionGraph, has_vertex, WellFormed}
+use Rattle.tg_names.specs.Sets.{member, rights_where}
+use Rattle.tg_names.specs.Letters.{set_of_right}
+use Rattle.tg_names.specs.Names.{Name, same_name}
+use Rattle.tg_graph.specs.Graphs.{ProtectionGraph, has_vertex, WellFormed}
 use Rattle.tg_graph.specs.Limits.{most_vertices}
 use Rattle.tg_graph.specs.Rules.{refusal_of}
 use Rattle.tg_graph.specs.Additions.{Leads}

@@ -1,15 +1,16 @@
 -- Reports: the bytes and the status that a command gives for its texts.
 use Rattle.std.specs.Prelude.{◌≡◌, ◌⊎◌, ◌↔◌, IsTrue, filter, ℕ, nat_le, Bool, true, false, ◌&&◌, List, [], ◌∷◌, ◌++◌, map, length, codes, bytes_eq, decimal, Option, Some, None, Result, Ok, Err, if◌then◌else◌}
 use Rattle.std.specs.List.{flat_map, before_first, after_first}
-use Rattle.tg_graph.specs.declared.right_sets.Right.{Right}
-use Rattle.tg_graph.specs.declared.right_sets.Rights.{Rights}
+use Rattle.tg_names.specs.declared.right_sets.Right.{Right}
+use Rattle.tg_names.specs.declared.right_sets.Rights.{Rights}
 use Rattle.tg_graph.specs.declared.rules.Refusal.{Refusal}
 use Rattle.tg_graph.specs.declared.session.Reply.{Reply}
 use Rattle.tg_graph.specs.declared.session.Reply.TheVariants.{Done, Refused}
 use Rattle.tg_graph.specs.declared.rules.Rule.{Rule}
-use Rattle.tg_graph.specs.Sets.{IsNamed, is_empty_set, member}
-use Rattle.tg_graph.specs.Letters.{letters_of}
-use Rattle.tg_graph.specs.Graphs.{Name, same_name, ProtectionGraph, has_vertex}
+use Rattle.tg_names.specs.Sets.{IsNamed, is_empty_set, member}
+use Rattle.tg_names.specs.Letters.{letters_of}
+use Rattle.tg_names.specs.Names.{Name, same_name}
+use Rattle.tg_graph.specs.Graphs.{ProtectionGraph, has_vertex}
 use Rattle.tg_graph.specs.RuleLists.{CanShare, CanShareAll}
 use Rattle.tg_graph.specs.Rules.{refusal_of, after}
 use Rattle.tg_text.specs.Limits.{most_line_bytes}

@@ -1,7 +1,7 @@
 -- Reports of scripts: the acts of seats one after another on a hall.
 use Rattle.std.specs.Prelude.{◌≡◌, ◌<◌, ℕ, List, [], ◌∷◌, ◌++◌, length, codes, decimal, Result, Ok}
 use Rattle.tg_graph.specs.Graphs.{ProtectionGraph}
-use Rattle.tg_graph.specs.Rows.{Entries}
+use Rattle.tg_rows.specs.Rows.{Entries}
 use Rattle.tg_graph.specs.GraphOf.{graph_of}
 use Rattle.tg_text.specs.declared.script_text.ScriptLine.{ScriptLine}
 use Rattle.tg_text.specs.Reading.{◌>>=◌}

@@ -1,7 +1,7 @@
 //! The groups of a policy, and whom operands stand for: by the places of vertices in name order.
 ghost use Rattle.std.specs.Prelude.{◌≡◌, ◌↔◌, ◌<◌, ◌≤◌, ◌||◌, ◌&&◌, ℕ, List, Some, false, IfOk, OnOk, IsTrue, bytes_eq, length, position, slice_get};
 ghost use Rattle.std.specs.List.Sorted.{IsStrictlySortedBy};
-ghost use Rattle.tg_graph.specs.Graphs.{Name, same_name};
+ghost use Rattle.tg_names.specs.Names.{Name, same_name};
 ghost use Rattle.tg_text.specs.Canonical.{name_cmp};
 ghost use Rattle.tg_analysis.specs.Cases.{ArePlaces, StandsAt, is_marked};
 ghost use Rattle.officer.specs.Policies.{stands_for, some_stands_for};

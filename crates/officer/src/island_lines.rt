@@ -21,7 +21,7 @@ struct Members {
 
 impl Model for Members {
     ghost use Rattle.std.specs.Prelude.{List};
-    ghost use Rattle.tg_graph.specs.Graphs.{Name};
+    ghost use Rattle.tg_names.specs.Names.{Name};
 
     ghost Value = { List Name };
 

@@ -2,7 +2,7 @@
 ghost use Rattle.std.specs.Prelude.{◌≡◌, ◌+◌, ◌≤◌, ◌∷◌, ◌++◌, [], IfOk, OnErr, codes, vec_len, vec_capacity};
 ghost use Rattle.tg_graph.specs.GraphOf.{graph_of};
 ghost use Rattle.tg_graph.specs.Rules.{rights_of};
-ghost use Rattle.tg_graph.specs.Sets.{IsNamed};
+ghost use Rattle.tg_names.specs.Sets.{IsNamed};
 ghost use Rattle.officer.specs.Outcomes.{PlaysRule, nothing_played, played_so_far};
 
 use std::alloc::{AllocError, Global};

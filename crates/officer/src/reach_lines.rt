@@ -3,7 +3,7 @@ ghost use Rattle.std.specs.Prelude.{◌≡◌, ◌++◌, true, IfOk, OnOk};
 ghost use Rattle.std.specs.Map.{keys_of};
 ghost use Rattle.tg_graph.specs.GraphOf.{graph_of};
 ghost use Rattle.tg_graph.specs.Graphs.{has_vertex};
-ghost use Rattle.tg_graph.specs.Letters.{letters_among};
+ghost use Rattle.tg_names.specs.Letters.{letters_among};
 ghost use Rattle.tg_analysis.specs.Reaching.{TellReach};
 ghost use Rattle.officer.specs.Readings.{reach_in};
 ghost use Rattle.officer.specs.Reports.{IsFor, AreReachLines, reach_line};

@@ -1,7 +1,8 @@
 -- What a vertex of x's island holds goes along the chain to x.
 use Rattle.std.proofs.Common.{suc, ◌+◌, ◌*◌, ◌^◌, ◌<◌, List, [], ◌∷◌, length, sym, subst, IsTrue, arith}
-use Rattle.tg_graph.specs.declared.right_sets.Right.{Right}
-use Rattle.tg_graph.specs.Graphs.{Name, ProtectionGraph, has_vertex, WellFormed}
+use Rattle.tg_names.specs.declared.right_sets.Right.{Right}
+use Rattle.tg_names.specs.Names.{Name}
+use Rattle.tg_graph.specs.Graphs.{ProtectionGraph, has_vertex, WellFormed}
 use Rattle.tg_analysis.specs.Sharing.{IsChain, FewRules, SharedExactly}
 use Rattle.tg_analysis.proofs.OneIsland.{starts}
 use Rattle.tg_analysis.proofs.NoOthers.{no_other}

@@ -1,18 +1,19 @@
 -- When a rule is accepted, and the sets that a derivation carries.
 use Rattle.std.proofs.Common.{◌≡◌, Bool, true, false, not, ◌&&◌, ◌⊎◌, inl, inr, Option, None, refl, sym, ap, ◌∙◌, subst, IsTrue, lit<}
 use Rattle.std.proofs.lemmas.Bool.{true≢false, eq-eqb, and_left, and_right, not_from_true}
-use Rattle.tg_graph.specs.declared.right_sets.Right.{Right}
-use Rattle.tg_graph.specs.declared.right_sets.Right.TheVariants.{T, G, R, W, E, A, D}
-use Rattle.tg_graph.specs.declared.right_sets.Rights.{Rights}
+use Rattle.tg_names.specs.declared.right_sets.Right.{Right}
+use Rattle.tg_names.specs.declared.right_sets.Right.TheVariants.{T, G, R, W, E, A, D}
+use Rattle.tg_names.specs.declared.right_sets.Rights.{Rights}
 use Rattle.tg_graph.specs.declared.rules.Rule.TheVariants.{Take, Grant, Create}
 use Rattle.tg_graph.specs.declared.rules.Refusal.{Refusal}
 use Rattle.tg_graph.specs.declared.rules.Refusal.TheVariants.{Unknown}
-use Rattle.tg_graph.specs.Sets.{member, is_empty_set, IsNamed, nothing}
+use Rattle.tg_names.specs.Sets.{member, is_empty_set, IsNamed, nothing}
 use Rattle.tg_analysis.specs.Moves.{only, take_and_grant}
-use Rattle.tg_graph.specs.Graphs.{Name, ProtectionGraph, has_vertex}
+use Rattle.tg_names.specs.Names.{Name}
+use Rattle.tg_graph.specs.Graphs.{ProtectionGraph, has_vertex}
 use Rattle.tg_graph.specs.Rules.{refused_if, unknown, missing, not_held, refusal_of}
-use Rattle.tg_graph.proofs.Sets.{same_set, member-where, named-where, member-nothing}
-use Rattle.tg_graph.proofs.RightsWords.{one_alone}
+use Rattle.tg_names.proofs.Sets.{same_set, member-where, named-where, member-nothing}
+use Rattle.tg_names.proofs.RightsWords.{one_alone}
 
 pub only_named : (right : Right) → IsNamed (only right)
 only_named T = lit< tt

@@ -2,11 +2,11 @@
 use Rattle.std.proofs.Common.{◌≡◌, ℕ, zero, suc, ◌<◌, ◌≤◌, ◌+◌, Bool, true, false, ◌&&◌, Option, Some, None, nat_eq, nat_lt, get_or, refl, sym, ap, subst, ◌∙◌, arith, true≢false, inl, inr, ◌⊎◌}
 use Rattle.std.specs.Prelude.{if◌then◌else◌}
 use Rattle.std.proofs.lemmas.Bool.{cases_lt, eq-eqb, eqb-true, lt-ltb, ltb-true, and_parts, or_cases, or_left, or_right}
-use Rattle.tg_graph.specs.declared.right_sets.Right.{Right}
-use Rattle.tg_graph.specs.declared.right_sets.Right.TheVariants.{T, G, R, W, E, A, D}
-use Rattle.tg_graph.specs.declared.right_sets.Rights.{Rights}
-use Rattle.tg_graph.specs.Letters.{all_rights}
-use Rattle.tg_graph.specs.Sets.{bit_of}
+use Rattle.tg_names.specs.declared.right_sets.Right.{Right}
+use Rattle.tg_names.specs.declared.right_sets.Right.TheVariants.{T, G, R, W, E, A, D}
+use Rattle.tg_names.specs.declared.right_sets.Rights.{Rights}
+use Rattle.tg_names.specs.Letters.{all_rights}
+use Rattle.tg_names.specs.Sets.{bit_of}
 use Rattle.tg_analysis.specs.declared.cases.Claimed.{Claimed}
 use Rattle.tg_analysis.specs.declared.cases.Spot.{Spot}
 use Rattle.tg_analysis.specs.Cases.{IsInBoth, IsFirstInBoth, IsSooner, IsEarlier, is_sooner, IsSoonest, sooner_of, earlier_of}

@@ -5,10 +5,10 @@ use Rattle.std.specs.Ordering.{nat_cmp, is_eq}
 use Rattle.std.specs.BTreeMap.{get, BTreeMap}
 use Rattle.std.proofs.lemmas.Bool.{cases_lt, cases_eq, or_cases, or_left, or_right}
 use Rattle.std.proofs.lemmas.Option.{slice_get-get_or, slice_get_within, option_and_then_some}
-use Rattle.tg_graph.specs.declared.right_sets.Right.{Right}
-use Rattle.tg_graph.specs.declared.right_sets.Rights.{Rights}
-use Rattle.tg_graph.specs.Sets.{member, nothing, bit_of, IsNamed}
-use Rattle.tg_graph.specs.Graphs.{Name}
+use Rattle.tg_names.specs.declared.right_sets.Right.{Right}
+use Rattle.tg_names.specs.declared.right_sets.Rights.{Rights}
+use Rattle.tg_names.specs.Sets.{member, nothing, bit_of, IsNamed}
+use Rattle.tg_names.specs.Names.{Name}
 use Rattle.tg_analysis.specs.declared.cases.Claimed.{Claimed}
 use Rattle.tg_analysis.specs.declared.held.Held.{Held}
 use Rattle.tg_analysis.specs.Numbering.{AreCounted, number_of}

@@ -2,10 +2,11 @@
 use Rattle.std.proofs.Common.{◌≡◌, false, ◌||◌, List, [], ◌∷◌, refl, ap, ◌∙◌, subst, IsTrue}
 use Rattle.std.proofs.lemmas.Bool.{both_ways, or_left, or_right}
 use Rattle.std.specs.List.{list_any}
-use Rattle.tg_graph.specs.declared.right_sets.Rights.{Rights}
+use Rattle.tg_names.specs.declared.right_sets.Rights.{Rights}
 use Rattle.tg_graph.specs.declared.rules.Rule.{Rule}
 use Rattle.tg_graph.specs.declared.rules.Rule.TheVariants.{Take, Grant, Create, Remove}
-use Rattle.tg_graph.specs.Graphs.{Name, same_name, ProtectionGraph, has_vertex}
+use Rattle.tg_names.specs.Names.{Name, same_name}
+use Rattle.tg_graph.specs.Graphs.{ProtectionGraph, has_vertex}
 use Rattle.tg_graph.specs.Rules.{after}
 use Rattle.tg_graph.specs.RuleLists.{AllAccepted}
 use Rattle.tg_analysis.specs.Sharing.{NoRepeat}

@@ -1,9 +1,10 @@
 -- A derivation from the way of a right and the rules that carried it.
 use Rattle.std.proofs.Common.{◌≡◌, ℕ, ◌*◌, ◌-◌, ◌<◌, ◌≤◌, List, [], ◌∷◌, length, refl, sym, ap, subst, IsTrue, arith}
-use Rattle.tg_graph.specs.declared.right_sets.Right.{Right}
+use Rattle.tg_names.specs.declared.right_sets.Right.{Right}
 use Rattle.tg_graph.specs.declared.rules.Rule.{Rule}
 use Rattle.tg_graph.specs.Limits.{most_vertices}
-use Rattle.tg_graph.specs.Graphs.{Name, ProtectionGraph, has_vertex, WellFormed}
+use Rattle.tg_names.specs.Names.{Name}
+use Rattle.tg_graph.specs.Graphs.{ProtectionGraph, has_vertex, WellFormed}
 use Rattle.tg_graph.specs.RuleLists.{CanShare}
 use Rattle.tg_analysis.specs.Sharing.{IsChain, HeldInIsland}
 use Rattle.tg_analysis.specs.Derivations.{end_of, IsUnderway, IsCarried, IsPart, DerivationsAreShort}

@@ -1,18 +1,18 @@
 -- Examples: derivations that the rules accept, and a right that can't be shared.
 use Rattle.std.proofs.Common.{◌≡◌, Bool, true, false, ◌&&◌, ◌||◌, List, [], ◌∷◌, refl, sym, subst, IsTrue, codes, lit<, lit≤}
 use Rattle.std.proofs.lemmas.Bool.{both_ways}
-use Rattle.tg_graph.specs.declared.right_sets.Right.{Right}
-use Rattle.tg_graph.specs.declared.right_sets.Right.TheVariants.{T, G, R, W}
+use Rattle.tg_names.specs.declared.right_sets.Right.{Right}
+use Rattle.tg_names.specs.declared.right_sets.Right.TheVariants.{T, G, R, W}
 use Rattle.tg_graph.specs.declared.rules.Rule.{Rule}
 use Rattle.tg_graph.specs.declared.rules.Rule.TheVariants.{Take, Grant, Create}
-use Rattle.tg_graph.specs.Names.{IsName}
-use Rattle.tg_graph.specs.Graphs.{Name, same_name, ProtectionGraph}
+use Rattle.tg_names.specs.Names.{IsName, Name, same_name}
+use Rattle.tg_graph.specs.Graphs.{ProtectionGraph}
 use Rattle.tg_graph.specs.Rules.{refusal_of, after, with_edge}
 use Rattle.tg_graph.specs.RuleLists.{AllAccepted, after_all}
 use Rattle.tg_analysis.specs.Sharing.{linked, HeldInIsland}
 use Rattle.tg_analysis.specs.Moves.{only, take_and_grant}
 use Rattle.tg_analysis.proofs.Floods.{flood_has_island}
-use Rattle.tg_graph.proofs.Rows.{same_bytes}
+use Rattle.tg_rows.proofs.Rows.{same_bytes}
 
 abbrev none : Name → Right → Name → Bool
 none u right v = false

@@ -4,7 +4,7 @@ use Rattle.std.specs.List.{list_any}
 use Rattle.std.proofs.lemmas.Bool.{cases_lt, eqb-true, eq-eqb, or_cases, or_left, or_right}
 use Rattle.std.proofs.lemmas.List.Folds.{list_any-append, list_any_at}
 use Rattle.tg_analysis.specs.declared.flooding.Flood.{Flood}
-use Rattle.tg_graph.specs.Rows.{Entries}
+use Rattle.tg_rows.specs.Rows.{Entries}
 use Rattle.tg_analysis.specs.Linked.{linked_end}
 use Rattle.tg_analysis.specs.Flooding.{number_at, IsOneOf, Meets, MeetsEnd, MeetsEnds}
 

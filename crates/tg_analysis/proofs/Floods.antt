@@ -1,6 +1,6 @@
 -- A set of vertices that each link leads on in has the islands of its vertices.
 use Rattle.std.proofs.Common.{List, [], ◌∷◌, subst, IsTrue}
-use Rattle.tg_graph.specs.Graphs.{Name}
+use Rattle.tg_names.specs.Names.{Name}
 use Rattle.tg_analysis.specs.Sharing.{IsChain, FloodHasIsland}
 use Rattle.tg_analysis.proofs.OneIsland.{starts}
 

@@ -4,10 +4,9 @@ use Rattle.std.proofs.lemmas.Bool.{or_cases, or_left, or_right, both_ways, cases
 use Rattle.std.proofs.lemmas.List.{length-map}
 use Rattle.std.specs.Prelude.{nat_eq}
 use Rattle.std.specs.List.{list_any}
-use Rattle.tg_graph.specs.Names.{IsName, first_bad}
-use Rattle.tg_graph.specs.Graphs.{Name, same_name}
-use Rattle.tg_graph.proofs.Rows.{same_bytes}
-use Rattle.tg_graph.proofs.NameLaws.{letter_fits}
+use Rattle.tg_names.specs.Names.{IsName, first_bad, Name, same_name}
+use Rattle.tg_rows.proofs.Rows.{same_bytes}
+use Rattle.tg_names.proofs.NameLaws.{letter_fits}
 use Rattle.tg_analysis.proofs.Counts.{has, without, without_lt, without_keeps}
 
 abbrev among : ℕ → List ℕ → Bool

@@ -8,12 +8,13 @@ use Rattle.std.proofs.lemmas.Option.{slice_get-get_or, slice_get_within, slice_g
 use Rattle.std.proofs.lemmas.List.Folds.{Any-from_list_any}
 use Rattle.std.proofs.lemmas.List.{length-replicate, get_or-replicate}
 use Rattle.std.proofs.Math.ListN.{get_or-eq_default}
-use Rattle.tg_graph.specs.declared.right_sets.Right.{Right}
-use Rattle.tg_graph.specs.declared.right_sets.Rights.{Rights}
-use Rattle.tg_graph.specs.Sets.{member}
-use Rattle.tg_graph.specs.Graphs.{Name, WellFormed}
+use Rattle.tg_names.specs.declared.right_sets.Right.{Right}
+use Rattle.tg_names.specs.declared.right_sets.Rights.{Rights}
+use Rattle.tg_names.specs.Sets.{member}
+use Rattle.tg_names.specs.Names.{Name}
+use Rattle.tg_graph.specs.Graphs.{WellFormed}
 use Rattle.tg_graph.specs.GraphOf.{graph_of}
-use Rattle.tg_graph.specs.Rows.{Entries, IsGraph, row_number}
+use Rattle.tg_rows.specs.Rows.{Entries, IsGraph, row_number}
 use Rattle.tg_graph.specs.RuleLists.{CanShare}
 use Rattle.tg_analysis.specs.Sharing.{HeldInIsland, SharedExactly}
 use Rattle.tg_analysis.specs.Numbering.{AreCounted, AreIslands}

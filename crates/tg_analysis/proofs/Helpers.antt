@@ -5,11 +5,11 @@ use Rattle.std.specs.Map.{keys_of}
 use Rattle.std.specs.List.{list_any}
 use Rattle.std.proofs.lemmas.Fmt.{decimal_is_IsNumeral}
 use Rattle.std.specs.Str.Parse.{digits_value}
-use Rattle.tg_graph.specs.Names.{helper_name}
-use Rattle.tg_graph.specs.Graphs.{Name, same_name, has_vertex}
+use Rattle.tg_names.specs.Names.{helper_name, Name, same_name}
+use Rattle.tg_graph.specs.Graphs.{has_vertex}
 use Rattle.tg_graph.specs.GraphOf.{graph_of}
-use Rattle.tg_graph.specs.Rows.{Entries, Edges}
-use Rattle.tg_graph.proofs.Digits.{name-decimal}
+use Rattle.tg_rows.specs.Rows.{Entries, Edges}
+use Rattle.tg_names.proofs.Digits.{name-decimal}
 use Rattle.tg_analysis.specs.Sharing.{HelpersSuffice}
 use Rattle.tg_analysis.proofs.Fresh.{all_used}
 

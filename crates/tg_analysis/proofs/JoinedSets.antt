@@ -2,9 +2,9 @@
 use Rattle.std.proofs.Common.{◌≡◌, ℕ, ◌<◌, ◌≤◌, ◌+◌, List, [], ◌∷◌, Some, None, refl, sym, ap, subst, ◌∙◌, length, get_or, slice_get, arith, inl, inr, ◌⊎◌}
 use Rattle.std.specs.Map.{keys_of}
 use Rattle.std.proofs.lemmas.Option.{slice_get_within, slice_get-get_or}
-use Rattle.tg_graph.specs.Graphs.{Name}
+use Rattle.tg_names.specs.Names.{Name}
 use Rattle.tg_graph.specs.GraphOf.{graph_of}
-use Rattle.tg_graph.specs.Rows.{Entries, IsGraph, row_number}
+use Rattle.tg_rows.specs.Rows.{Entries, IsGraph, row_number}
 use Rattle.tg_analysis.specs.declared.disjoint_sets.DisjointSets.{DisjointSets}
 use Rattle.tg_analysis.specs.Sharing.{IsChain, InOneIsland}
 use Rattle.tg_analysis.specs.Linked.{linked_end, IsBefore}

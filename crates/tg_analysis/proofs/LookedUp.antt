@@ -4,13 +4,14 @@ use Rattle.std.specs.Prelude.{not}
 use Rattle.std.specs.Map.{keys_of}
 use Rattle.std.proofs.lemmas.Bool.{true≢false, cases_Bool, cases_lt}
 use Rattle.std.proofs.lemmas.Option.{slice_get_within, slice_get-get_or}
-use Rattle.tg_graph.specs.declared.right_sets.Right.{Right}
-use Rattle.tg_graph.specs.declared.right_sets.Rights.{Rights}
-use Rattle.tg_graph.specs.Sets.{member, rights_where, is_empty_set, nothing, IsNamed}
-use Rattle.tg_graph.proofs.Sets.{member-where, member-nothing, named-where, same_set}
-use Rattle.tg_graph.specs.Graphs.{Name, WellFormed}
+use Rattle.tg_names.specs.declared.right_sets.Right.{Right}
+use Rattle.tg_names.specs.declared.right_sets.Rights.{Rights}
+use Rattle.tg_names.specs.Sets.{member, rights_where, is_empty_set, nothing, IsNamed}
+use Rattle.tg_names.proofs.Sets.{member-where, member-nothing, named-where, same_set}
+use Rattle.tg_names.specs.Names.{Name}
+use Rattle.tg_graph.specs.Graphs.{WellFormed}
 use Rattle.tg_graph.specs.GraphOf.{graph_of}
-use Rattle.tg_graph.specs.Rows.{Entries, IsGraph, row_number, label_in}
+use Rattle.tg_rows.specs.Rows.{Entries, IsGraph, row_number, label_in}
 use Rattle.tg_analysis.specs.Sharing.{HeldInIsland}
 use Rattle.tg_analysis.specs.Holders.{IsHeld, AreHeld}
 use Rattle.tg_analysis.proofs.Places.{place_of, holds-row}

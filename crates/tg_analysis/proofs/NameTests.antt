@@ -3,13 +3,13 @@ use Rattle.std.proofs.Common.{◌≡◌, Bool, true, false, ◌&&◌, ◌||◌, 
 use Rattle.std.proofs.lemmas.Bool.{and_parts, or_cases, cases_Bool, eqb-true}
 use Rattle.std.proofs.lemmas.Slice.Eq.{bytes_eq-Decides}
 use Rattle.std.specs.List.{list_any}
-use Rattle.tg_graph.specs.declared.right_sets.Right.{Right}
-use Rattle.tg_graph.specs.declared.right_sets.Rights.{Rights}
-use Rattle.tg_graph.specs.Sets.{member, is_empty_set}
-use Rattle.tg_graph.proofs.Rows.{same_bytes}
-use Rattle.tg_graph.proofs.Sets.{member-nothing}
+use Rattle.tg_names.specs.declared.right_sets.Right.{Right}
+use Rattle.tg_names.specs.declared.right_sets.Rights.{Rights}
+use Rattle.tg_names.specs.Sets.{member, is_empty_set}
+use Rattle.tg_rows.proofs.Rows.{same_bytes}
+use Rattle.tg_names.proofs.Sets.{member-nothing}
 use Rattle.tg_graph.specs.Rules.{with_edge}
-use Rattle.tg_graph.specs.Graphs.{Name, same_name}
+use Rattle.tg_names.specs.Names.{Name, same_name}
 
 pub same_refl : (a : Name) → same_name a a ≡ true
 same_refl a = (bytes_eq-Decides a a).1 refl

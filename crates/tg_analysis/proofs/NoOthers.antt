@@ -1,9 +1,10 @@
 -- No list of rules gives a right over a vertex but one that the holder's island had.
 use Rattle.std.proofs.Common.{List, [], ◌∷◌, ◌∙◌, subst, IsTrue, inl, inr}
 use Rattle.std.proofs.lemmas.Bool.{both_ways}
-use Rattle.tg_graph.specs.declared.right_sets.Right.{Right}
+use Rattle.tg_names.specs.declared.right_sets.Right.{Right}
 use Rattle.tg_graph.specs.declared.rules.Rule.{Rule}
-use Rattle.tg_graph.specs.Graphs.{Name, ProtectionGraph, has_vertex, WellFormed}
+use Rattle.tg_names.specs.Names.{Name}
+use Rattle.tg_graph.specs.Graphs.{ProtectionGraph, has_vertex, WellFormed}
 use Rattle.tg_graph.specs.Rules.{after}
 use Rattle.tg_graph.specs.RuleLists.{AllAccepted, after_all, CanShare}
 use Rattle.tg_analysis.specs.Sharing.{InOneIsland, HeldInIsland, NothingElse}

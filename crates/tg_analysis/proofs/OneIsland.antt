@@ -1,7 +1,8 @@
 -- To lie in one island is an equivalence of vertices.
 use Rattle.std.proofs.Common.{◌≡◌, Bool, true, false, ◌||◌, List, [], ◌∷◌, refl, sym, subst, IsTrue}
-use Rattle.tg_graph.specs.declared.right_sets.Right.TheVariants.{T, G}
-use Rattle.tg_graph.specs.Graphs.{Name, ProtectionGraph, has_vertex}
+use Rattle.tg_names.specs.declared.right_sets.Right.TheVariants.{T, G}
+use Rattle.tg_names.specs.Names.{Name}
+use Rattle.tg_graph.specs.Graphs.{ProtectionGraph, has_vertex}
 use Rattle.tg_analysis.specs.Sharing.{linked, IsChain, InOneIsland}
 
 pub linked_sym : (g : ProtectionGraph) (u v : Name) → IsTrue (linked g u v) → IsTrue (linked g v u)

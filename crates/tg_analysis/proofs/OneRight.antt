@@ -1,11 +1,12 @@
 -- The set of one right has that right and no other.
 use Rattle.std.proofs.Common.{◌≡◌, ◌^◌, ◌∙◌, sym, ap, subst, IsTrue}
-use Rattle.tg_graph.specs.declared.right_sets.Right.{Right}
-use Rattle.tg_graph.specs.declared.right_sets.Rights.{Rights}
-use Rattle.tg_graph.specs.Sets.{member, bit_of}
-use Rattle.tg_graph.specs.Graphs.{Name, ProtectionGraph}
+use Rattle.tg_names.specs.declared.right_sets.Right.{Right}
+use Rattle.tg_names.specs.declared.right_sets.Rights.{Rights}
+use Rattle.tg_names.specs.Sets.{member, bit_of}
+use Rattle.tg_names.specs.Names.{Name}
+use Rattle.tg_graph.specs.Graphs.{ProtectionGraph}
 use Rattle.tg_graph.specs.RuleLists.{CanShare, CanShareAll, after_all}
-use Rattle.tg_graph.proofs.RightsWords.{one_itself, one_alone}
+use Rattle.tg_names.proofs.RightsWords.{one_itself, one_alone}
 
 module _ (g : ProtectionGraph) (right : Right) (s : Rights) (x y : Name) (one : s.0 ≡ 2 ^ bit_of right) where
   pub the_one : CanShareAll g s x y → CanShare g right x y

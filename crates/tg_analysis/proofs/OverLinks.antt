@@ -4,14 +4,14 @@ use Rattle.std.proofs.lemmas.List.{append-nil}
 use Rattle.std.proofs.lemmas.List.Folds.{list_any-append}
 use Rattle.std.specs.List.{list_any}
 use Rattle.std.proofs.lemmas.Bool.{true≢false, and_from, or_cases, or_left, or_right}
-use Rattle.tg_graph.specs.declared.right_sets.Right.{Right}
-use Rattle.tg_graph.specs.declared.right_sets.Right.TheVariants.{T, G}
-use Rattle.tg_graph.specs.declared.right_sets.Rights.{Rights}
+use Rattle.tg_names.specs.declared.right_sets.Right.{Right}
+use Rattle.tg_names.specs.declared.right_sets.Right.TheVariants.{T, G}
+use Rattle.tg_names.specs.declared.right_sets.Rights.{Rights}
 use Rattle.tg_graph.specs.declared.rules.Rule.{Rule}
 use Rattle.tg_graph.specs.declared.rules.Rule.TheVariants.{Take, Grant, Create}
-use Rattle.tg_graph.specs.Names.{IsName}
-use Rattle.tg_graph.specs.Sets.{member}
-use Rattle.tg_graph.specs.Graphs.{Name, same_name, ProtectionGraph, has_vertex}
+use Rattle.tg_names.specs.Names.{IsName, Name, same_name}
+use Rattle.tg_names.specs.Sets.{member}
+use Rattle.tg_graph.specs.Graphs.{ProtectionGraph, has_vertex}
 use Rattle.tg_graph.specs.Rules.{with_edge, after}
 use Rattle.tg_graph.specs.RuleLists.{AllAccepted, after_all}
 use Rattle.tg_analysis.specs.Sharing.{linked}
@@ -19,7 +19,7 @@ use Rattle.tg_analysis.specs.Moves.{only, take_and_grant}
 use Rattle.tg_analysis.specs.Derivations.{Extends}
 use Rattle.tg_analysis.proofs.NameTests.{same_refl, any_push}
 use Rattle.tg_analysis.proofs.Fresh.{fresh}
-use Rattle.tg_graph.proofs.RightsWords.{one_itself}
+use Rattle.tg_names.proofs.RightsWords.{one_itself}
 use Rattle.tg_analysis.proofs.Allowed.{only_named, take_and_grant_named, take_accepted, grant_accepted, create_accepted}
 
 pub both_accepted : (g : ProtectionGraph) (rs qs : List Rule) → AllAccepted g rs → AllAccepted (after_all g rs) qs → AllAccepted g (rs ++ qs)

@@ -6,18 +6,19 @@ use Rattle.std.proofs.lemmas.List.Elements.{filter-append}
 use Rattle.std.proofs.lemmas.List.Filters.{length-filter_both}
 use Rattle.std.proofs.Math.Nat.{mul-suc, mul-le-mul_left}
 use Rattle.std.specs.List.{AllByRecursion, filter}
-use Rattle.tg_graph.specs.declared.right_sets.Right.{Right}
-use Rattle.tg_graph.specs.declared.right_sets.Right.TheVariants.{T, G, R, W, E, A, D}
-use Rattle.tg_graph.specs.declared.right_sets.Rights.{Rights}
+use Rattle.tg_names.specs.declared.right_sets.Right.{Right}
+use Rattle.tg_names.specs.declared.right_sets.Right.TheVariants.{T, G, R, W, E, A, D}
+use Rattle.tg_names.specs.declared.right_sets.Rights.{Rights}
 use Rattle.tg_graph.specs.declared.rules.Rule.{Rule}
-use Rattle.tg_graph.specs.Sets.{member}
-use Rattle.tg_graph.specs.Letters.{all_rights}
-use Rattle.tg_graph.specs.Graphs.{Name, ProtectionGraph}
+use Rattle.tg_names.specs.Sets.{member}
+use Rattle.tg_names.specs.Letters.{all_rights}
+use Rattle.tg_names.specs.Names.{Name}
+use Rattle.tg_graph.specs.Graphs.{ProtectionGraph}
 use Rattle.tg_graph.specs.RuleLists.{CanShare, CanShareAll, after_all}
 use Rattle.tg_analysis.specs.Moves.{only}
 use Rattle.tg_analysis.specs.Derivations.{IsSoFar, IsPart, IsDerivation}
 use Rattle.tg_analysis.specs.SetDerivations.{rights_in, AreParts, IsDerivationOfAll, AddsPart, HasParts, OneRightAlone, DerivationsOfAllAreShort}
-use Rattle.tg_graph.proofs.RightsWords.{one_itself}
+use Rattle.tg_names.proofs.RightsWords.{one_itself}
 use Rattle.tg_analysis.proofs.OverLinks.{after_both}
 use Rattle.tg_analysis.proofs.Derived.{part_short}
 

@@ -11,15 +11,15 @@ use Rattle.std.proofs.lemmas.List.Sums.{position_or_len_is}
 use Rattle.std.proofs.lemmas.Map.Made.{AllPairs-from_IsDistinct}
 use Rattle.std.proofs.lemmas.Map.Entries.{place_from_lookup, lookup_from_place}
 use Rattle.std.proofs.lemmas.Slice.Eq.{bytes_eq-Decides}
-use Rattle.tg_graph.proofs.Places.{distinct_from_up}
-use Rattle.tg_graph.specs.declared.right_sets.Right.{Right}
-use Rattle.tg_graph.specs.declared.right_sets.Rights.{Rights}
-use Rattle.tg_graph.specs.Sets.{member, nothing}
-use Rattle.tg_graph.specs.Graphs.{Name}
+use Rattle.tg_rows.proofs.Places.{distinct_from_up}
+use Rattle.tg_names.specs.declared.right_sets.Right.{Right}
+use Rattle.tg_names.specs.declared.right_sets.Rights.{Rights}
+use Rattle.tg_names.specs.Sets.{member, nothing}
+use Rattle.tg_names.specs.Names.{Name}
 use Rattle.tg_graph.specs.GraphOf.{graph_of}
-use Rattle.tg_graph.specs.Rows.{Edges, Entries, IsGraph, IsRow, label_in, row_number}
-use Rattle.tg_graph.proofs.Rows.{same_bytes}
-use Rattle.tg_graph.proofs.Sets.{member-nothing}
+use Rattle.tg_rows.specs.Rows.{Edges, Entries, IsGraph, IsRow, label_in, row_number}
+use Rattle.tg_rows.proofs.Rows.{same_bytes}
+use Rattle.tg_names.proofs.Sets.{member-nothing}
 
 module _ (ks : List Name) (apart : IsDistinct bytes_eq ks) where
   -- the position of a name is where it stands

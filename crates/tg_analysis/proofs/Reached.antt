@@ -7,17 +7,18 @@ use Rattle.std.proofs.lemmas.List.{get_or-replicate, get_or_past, length-replica
 use Rattle.std.proofs.lemmas.Map.Entries.{length-keys_of, lookup_from_place}
 use Rattle.std.proofs.lemmas.Option.{slice_get-get_or, slice_get_within, get_or_from_slice_get}
 use Rattle.std.specs.Cmp.Lexicographic.{nat_list_eq_equiv}
-use Rattle.tg_graph.specs.declared.right_sets.Right.{Right}
-use Rattle.tg_graph.specs.declared.right_sets.Rights.{Rights}
+use Rattle.tg_names.specs.declared.right_sets.Right.{Right}
+use Rattle.tg_names.specs.declared.right_sets.Rights.{Rights}
 use Rattle.tg_graph.specs.declared.ends.Wanted.TheVariants.{All}
-use Rattle.tg_graph.specs.Sets.{member, nothing, IsNamed}
+use Rattle.tg_names.specs.Sets.{member, nothing, IsNamed}
 use Rattle.tg_graph.specs.Ends.{end_of}
-use Rattle.tg_graph.specs.Graphs.{Name, WellFormed}
+use Rattle.tg_names.specs.Names.{Name}
+use Rattle.tg_graph.specs.Graphs.{WellFormed}
 use Rattle.tg_graph.specs.GraphOf.{graph_of}
-use Rattle.tg_graph.specs.Rows.{Entries, IsGraph, IsRow, IsLabel, row_number, label_in}
+use Rattle.tg_rows.specs.Rows.{Entries, IsGraph, IsRow, IsLabel, row_number, label_in}
 use Rattle.tg_graph.specs.RuleLists.{CanShare, CanShareAll}
-use Rattle.tg_graph.proofs.Places.{distinct_from_up}
-use Rattle.tg_graph.proofs.Sets.{member-nothing}
+use Rattle.tg_rows.proofs.Places.{distinct_from_up}
+use Rattle.tg_names.proofs.Sets.{member-nothing}
 use Rattle.tg_analysis.specs.Sharing.{SharedExactly, TogetherAsAlone, HeldInIsland}
 use Rattle.tg_analysis.specs.Numbering.{AreCounted, AreIslands}
 use Rattle.tg_analysis.specs.Gathered.{target_of, HasEdgeFrom}

@@ -9,8 +9,9 @@ use Rattle.std.proofs.lemmas.Option.{slice_get_within, get_or_from_slice_get}
 use Rattle.std.specs.List.{list_any, position, position_or_len}
 use Rattle.std.specs.List.Sorted.{IsPermutation}
 use Rattle.std.specs.Map.{keys_of}
-use Rattle.tg_graph.specs.Graphs.{Name, same_name, ProtectionGraph, WellFormed}
-use Rattle.tg_graph.proofs.Rows.{same_bytes}
+use Rattle.tg_names.specs.Names.{Name, same_name}
+use Rattle.tg_graph.specs.Graphs.{ProtectionGraph, WellFormed}
+use Rattle.tg_rows.proofs.Rows.{same_bytes}
 use Rattle.tg_analysis.specs.Sharing.{linked}
 use Rattle.tg_analysis.specs.Linked.{NeighbourLists, neighbours, AreLinks}
 use Rattle.tg_analysis.specs.Searches.{Visits, is_among, with_met, IsSearch, IsInOrder, GoesRound, AddsUnmet, AreNear, AreUnmetAt, AreUnmet, Meets}

@@ -6,9 +6,10 @@ use Rattle.std.proofs.lemmas.Option.{slice_get_within, slice_get-get_or}
 use Rattle.std.specs.List.{list_any, IsDistinct, AllByRecursion}
 use Rattle.std.specs.Map.{keys_of, lookup}
 use Rattle.std.proofs.lemmas.Map.Made.{is_some-lookup}
-use Rattle.tg_graph.specs.declared.right_sets.Right.{Right}
-use Rattle.tg_graph.specs.Graphs.{Name, same_name, ProtectionGraph, has_vertex, WellFormed}
-use Rattle.tg_graph.proofs.Rows.{same_bytes}
+use Rattle.tg_names.specs.declared.right_sets.Right.{Right}
+use Rattle.tg_names.specs.Names.{Name, same_name}
+use Rattle.tg_graph.specs.Graphs.{ProtectionGraph, has_vertex, WellFormed}
+use Rattle.tg_rows.proofs.Rows.{same_bytes}
 use Rattle.tg_analysis.specs.Sharing.{linked, HeldInIsland}
 use Rattle.tg_analysis.specs.declared.chains.Search.{Search}
 use Rattle.tg_analysis.specs.Linked.{AreLinks}

@@ -1,9 +1,10 @@
 -- Each chain can be cut to one without a repeated vertex, which is no longer than the list of vertices.
 use Rattle.std.proofs.Common.{◌≡◌, ◌<◌, Bool, true, false, ◌⊎◌, inl, inr, List, [], ◌∷◌, length, refl, sym, subst, IsTrue}
 use Rattle.std.proofs.lemmas.Bool.{or_cases, both_ways, cases_Bool}
-use Rattle.tg_graph.specs.Graphs.{Name, same_name, ProtectionGraph, has_vertex}
+use Rattle.tg_names.specs.Names.{Name, same_name}
+use Rattle.tg_graph.specs.Graphs.{ProtectionGraph, has_vertex}
 use Rattle.tg_analysis.specs.Sharing.{IsChain, NoRepeat}
-use Rattle.tg_graph.proofs.Rows.{same_bytes}
+use Rattle.tg_rows.proofs.Rows.{same_bytes}
 use Rattle.tg_analysis.proofs.NameTests.{same_refl}
 use Rattle.tg_analysis.proofs.Counts.{has, Distinct, distinct_le}
 

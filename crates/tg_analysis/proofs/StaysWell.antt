@@ -1,17 +1,17 @@
 -- A rule keeps a graph as it should be.
 use Rattle.std.proofs.Common.{◌≡◌, true, ◌⊎◌, inl, inr, [], ◌∷◌, ◌++◌, None, sym, ◌∙◌, subst, IsTrue}
 use Rattle.std.proofs.lemmas.Bool.{and_parts, or_cases, or_left, or_right}
-use Rattle.tg_graph.specs.declared.right_sets.Right.{Right}
-use Rattle.tg_graph.specs.declared.right_sets.Rights.{Rights}
+use Rattle.tg_names.specs.declared.right_sets.Right.{Right}
+use Rattle.tg_names.specs.declared.right_sets.Rights.{Rights}
 use Rattle.tg_graph.specs.declared.rules.Rule.{Rule}
 use Rattle.tg_graph.specs.declared.rules.Rule.TheVariants.{Take, Grant, Create, Remove}
-use Rattle.tg_graph.specs.Names.{IsName}
-use Rattle.tg_graph.specs.Sets.{member}
-use Rattle.tg_graph.specs.Graphs.{Name, same_name, ProtectionGraph, has_vertex, WellFormed}
+use Rattle.tg_names.specs.Names.{IsName, Name, same_name}
+use Rattle.tg_names.specs.Sets.{member}
+use Rattle.tg_graph.specs.Graphs.{ProtectionGraph, has_vertex, WellFormed}
 use Rattle.tg_graph.specs.Rules.{refusal_of, with_edge, after}
 use Rattle.tg_graph.specs.RuleWords.{IsRule}
 use Rattle.tg_analysis.specs.Sharing.{StaysWellFormed}
-use Rattle.tg_graph.proofs.Rows.{same_bytes}
+use Rattle.tg_rows.proofs.Rows.{same_bytes}
 use Rattle.tg_analysis.proofs.NameTests.{same_refl, any_push, edge_cases}
 use Rattle.tg_analysis.proofs.Accepted.{take_facts, grant_facts, create_facts}
 

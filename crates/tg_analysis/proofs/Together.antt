@@ -1,12 +1,13 @@
 -- The rights of a set go to x one after another.
 use Rattle.std.proofs.Common.{◌≡◌, ℕ, ◌+◌, ◌*◌, ◌^◌, ◌<◌, ◌≤◌, false, ◌⊎◌, inl, inr, List, [], ◌∷◌, length, refl, sym, subst, IsTrue, arith}
 use Rattle.std.proofs.lemmas.Bool.{both_ways, cases_Bool}
-use Rattle.tg_graph.specs.declared.right_sets.Right.{Right}
-use Rattle.tg_graph.specs.declared.right_sets.Right.TheVariants.{T, G, R, W, E, A, D}
-use Rattle.tg_graph.specs.declared.right_sets.Rights.{Rights}
-use Rattle.tg_graph.specs.Sets.{member}
-use Rattle.tg_graph.specs.Letters.{all_rights}
-use Rattle.tg_graph.specs.Graphs.{Name, ProtectionGraph, has_vertex, WellFormed}
+use Rattle.tg_names.specs.declared.right_sets.Right.{Right}
+use Rattle.tg_names.specs.declared.right_sets.Right.TheVariants.{T, G, R, W, E, A, D}
+use Rattle.tg_names.specs.declared.right_sets.Rights.{Rights}
+use Rattle.tg_names.specs.Sets.{member}
+use Rattle.tg_names.specs.Letters.{all_rights}
+use Rattle.tg_names.specs.Names.{Name}
+use Rattle.tg_graph.specs.Graphs.{ProtectionGraph, has_vertex, WellFormed}
 use Rattle.tg_graph.specs.RuleLists.{CanShareAll}
 use Rattle.tg_analysis.specs.Sharing.{IsChain, HeldInIsland, TogetherAsAlone}
 use Rattle.tg_analysis.proofs.Short.{cut_short, short_enough}

@@ -1,13 +1,14 @@
 -- Each vertex has an origin among the opening vertices, and each right over an opening vertex was held in the island of its holder's origin.
 use Rattle.std.proofs.Common.{◌≡◌, true, false, ◌⊎◌, inl, inr, None, refl, sym, ◌∙◌, subst, IsTrue, if◌then◌else◌}
 use Rattle.std.proofs.lemmas.Bool.{and_parts, or_cases, or_left, or_right, cond-true, cond-false, both_ways, false_from_ne_true}
-use Rattle.tg_graph.specs.declared.right_sets.Right.{Right}
-use Rattle.tg_graph.specs.declared.right_sets.Right.TheVariants.{T, G}
-use Rattle.tg_graph.specs.declared.right_sets.Rights.{Rights}
+use Rattle.tg_names.specs.declared.right_sets.Right.{Right}
+use Rattle.tg_names.specs.declared.right_sets.Right.TheVariants.{T, G}
+use Rattle.tg_names.specs.declared.right_sets.Rights.{Rights}
 use Rattle.tg_graph.specs.declared.rules.Rule.{Rule}
 use Rattle.tg_graph.specs.declared.rules.Rule.TheVariants.{Take, Grant, Create, Remove}
-use Rattle.tg_graph.specs.Sets.{member}
-use Rattle.tg_graph.specs.Graphs.{Name, same_name, ProtectionGraph, has_vertex, WellFormed}
+use Rattle.tg_names.specs.Sets.{member}
+use Rattle.tg_names.specs.Names.{Name, same_name}
+use Rattle.tg_graph.specs.Graphs.{ProtectionGraph, has_vertex, WellFormed}
 use Rattle.tg_graph.specs.Rules.{refusal_of, with_edge, after}
 use Rattle.tg_analysis.specs.Sharing.{linked, InOneIsland}
 use Rattle.tg_analysis.proofs.NameTests.{same_refl, same_false, any_push, edge_cases}

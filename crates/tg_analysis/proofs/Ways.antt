@@ -4,9 +4,10 @@ use Rattle.std.proofs.lemmas.Bool.{true≢false, both_ways, or_cases, false_from
 use Rattle.std.specs.List.{list_any, IsDistinct, position}
 use Rattle.std.specs.Map.{keys_of}
 use Rattle.std.specs.Option.{option_and_then}
-use Rattle.tg_graph.specs.declared.right_sets.Right.{Right}
-use Rattle.tg_graph.specs.Graphs.{Name, same_name, ProtectionGraph, has_vertex}
-use Rattle.tg_graph.proofs.Rows.{same_bytes}
+use Rattle.tg_names.specs.declared.right_sets.Right.{Right}
+use Rattle.tg_names.specs.Names.{Name, same_name}
+use Rattle.tg_graph.specs.Graphs.{ProtectionGraph, has_vertex}
+use Rattle.tg_rows.proofs.Rows.{same_bytes}
 use Rattle.tg_analysis.specs.Sharing.{linked, IsChain, NoRepeat}
 use Rattle.tg_analysis.specs.Searches.{Visits, is_among, back_of, GoesBack, IsWayBack, IsBackwards, IsSearch, IsSearched, IsInOrder, IsWay}
 use Rattle.tg_analysis.proofs.OneIsland.{linked_sym}

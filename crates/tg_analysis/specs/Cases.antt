@@ -3,12 +3,13 @@ use Rattle.std.specs.Prelude.{◌≡◌, ℕ, ◌<◌, ◌≤◌, ◌+◌, ◌^�
 use Rattle.std.specs.BTreeMap.{get, BTreeMap}
 use Rattle.std.specs.Map.{keys_of}
 use Rattle.std.specs.Ordering.{nat_cmp}
-use Rattle.tg_graph.specs.declared.right_sets.Right.{Right}
-use Rattle.tg_graph.specs.declared.right_sets.Rights.{Rights}
-use Rattle.tg_graph.specs.Sets.{member, nothing, bit_of, IsNamed}
-use Rattle.tg_graph.specs.Graphs.{Name, ProtectionGraph, WellFormed, has_vertex}
+use Rattle.tg_names.specs.declared.right_sets.Right.{Right}
+use Rattle.tg_names.specs.declared.right_sets.Rights.{Rights}
+use Rattle.tg_names.specs.Sets.{member, nothing, bit_of, IsNamed}
+use Rattle.tg_names.specs.Names.{Name}
+use Rattle.tg_graph.specs.Graphs.{ProtectionGraph, WellFormed, has_vertex}
 use Rattle.tg_graph.specs.GraphOf.{graph_of}
-use Rattle.tg_graph.specs.Rows.{Entries, IsGraph}
+use Rattle.tg_rows.specs.Rows.{Entries, IsGraph}
 use Rattle.tg_graph.specs.RuleLists.{CanShare}
 use Rattle.tg_analysis.specs.declared.cases.Case.{Case}
 use Rattle.tg_analysis.specs.declared.cases.Claimed.{Claimed}

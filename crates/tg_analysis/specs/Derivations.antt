@@ -1,13 +1,13 @@
 -- Lists of rules that carry a right from a vertex to another.
 use Rattle.std.specs.Prelude.{◌≡◌, ℕ, ◌+◌, ◌*◌, ◌-◌, ◌<◌, ◌≤◌, IsTrue, if◌then◌else◌, List, [], ◌∷◌, ◌++◌, length, Option, Some, None}
 use Rattle.std.specs.List.{list_any}
-use Rattle.tg_graph.specs.declared.right_sets.Right.{Right}
-use Rattle.tg_graph.specs.declared.right_sets.Right.TheVariants.{T, G}
+use Rattle.tg_names.specs.declared.right_sets.Right.{Right}
+use Rattle.tg_names.specs.declared.right_sets.Right.TheVariants.{T, G}
 use Rattle.tg_graph.specs.declared.rules.Rule.{Rule}
 use Rattle.tg_graph.specs.declared.rules.Rule.TheVariants.{Take, Grant, Create}
-use Rattle.tg_graph.specs.Names.{helper_name}
+use Rattle.tg_names.specs.Names.{helper_name, Name, same_name}
 use Rattle.tg_graph.specs.Limits.{most_vertices}
-use Rattle.tg_graph.specs.Graphs.{Name, same_name, ProtectionGraph, has_vertex}
+use Rattle.tg_graph.specs.Graphs.{ProtectionGraph, has_vertex}
 use Rattle.tg_graph.specs.RuleLists.{AllAccepted, after_all}
 use Rattle.tg_analysis.specs.Sharing.{IsChain, NoRepeat}
 use Rattle.tg_analysis.specs.Moves.{only, take_and_grant, IsMove, AreMoves, IsShortest}

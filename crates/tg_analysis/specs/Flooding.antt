@@ -2,7 +2,7 @@
 use Rattle.std.specs.Prelude.{◌≡◌, ℕ, ◌<◌, ◌+◌, true, not, List, [], ◌∷◌, length, nat_eq, slice_index_or, count_by, Option, Some, None, is_some, ◌⊎◌}
 use Rattle.std.specs.List.{list_any}
 use Rattle.tg_analysis.specs.declared.flooding.Flood.{Flood}
-use Rattle.tg_graph.specs.Rows.{Entries}
+use Rattle.tg_rows.specs.Rows.{Entries}
 use Rattle.tg_analysis.specs.Linked.{linked_end}
 
 -- the number at a position, if it has one

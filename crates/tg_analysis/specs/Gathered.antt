@@ -2,9 +2,9 @@
 use Rattle.std.specs.Prelude.{◌≡◌, ℕ, ◌<◌, ◌≤◌, ◌↔◌, IsTrue, Bool, cond, List, length, bytes_eq, slice_get, position, Option, Some, None, ◌⊎◌}
 use Rattle.std.specs.Map.{keys_of}
 use Rattle.std.specs.Option.{option_and_then}
-use Rattle.tg_graph.specs.declared.right_sets.Right.{Right}
-use Rattle.tg_graph.specs.Sets.{member}
-use Rattle.tg_graph.specs.Rows.{Entries, row_number}
+use Rattle.tg_names.specs.declared.right_sets.Right.{Right}
+use Rattle.tg_names.specs.Sets.{member}
+use Rattle.tg_rows.specs.Rows.{Entries, row_number}
 use Rattle.tg_analysis.specs.Numbering.{AreCounted}
 use Rattle.tg_analysis.specs.Holdings.{holds_over}
 

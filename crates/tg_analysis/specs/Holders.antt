@@ -1,9 +1,10 @@
 -- Who holds rights over one vertex.
 use Rattle.std.specs.Prelude.{IsTrue}
-use Rattle.tg_graph.specs.declared.right_sets.Right.{Right}
-use Rattle.tg_graph.specs.declared.right_sets.Rights.{Rights}
-use Rattle.tg_graph.specs.Sets.{member}
-use Rattle.tg_graph.specs.Graphs.{Name, ProtectionGraph}
+use Rattle.tg_names.specs.declared.right_sets.Right.{Right}
+use Rattle.tg_names.specs.declared.right_sets.Rights.{Rights}
+use Rattle.tg_names.specs.Sets.{member}
+use Rattle.tg_names.specs.Names.{Name}
+use Rattle.tg_graph.specs.Graphs.{ProtectionGraph}
 
 -- some vertex holds the right over y
 abbrev pub IsHeld : ProtectionGraph → Right → Name → Type 0

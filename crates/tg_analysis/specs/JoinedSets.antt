@@ -1,9 +1,9 @@
 -- Islands as sets that links join, and their numbers.
 use Rattle.std.specs.Prelude.{◌≡◌, ℕ, ◌<◌, ◌≤◌, ◌↔◌, List, length, slice_get, Some}
 use Rattle.std.specs.Map.{keys_of}
-use Rattle.tg_graph.specs.Graphs.{Name}
+use Rattle.tg_names.specs.Names.{Name}
 use Rattle.tg_graph.specs.GraphOf.{graph_of}
-use Rattle.tg_graph.specs.Rows.{Entries}
+use Rattle.tg_rows.specs.Rows.{Entries}
 use Rattle.tg_analysis.specs.declared.disjoint_sets.DisjointSets.{DisjointSets}
 use Rattle.tg_analysis.specs.declared.joining.Numbers.{Numbers}
 use Rattle.tg_analysis.specs.Sharing.{InOneIsland}

@@ -3,10 +3,11 @@ use Rattle.std.specs.Prelude.{◌≡◌, ℕ, ◌<◌, Bool, true, ◌||◌, ◌
 use Rattle.std.specs.List.{list_any}
 use Rattle.std.specs.Map.{keys_of}
 use Rattle.std.specs.Option.{option_and_then}
-use Rattle.tg_graph.specs.declared.right_sets.Right.TheVariants.{T, G}
-use Rattle.tg_graph.specs.Sets.{member}
-use Rattle.tg_graph.specs.Rows.{Entries, row_number}
-use Rattle.tg_graph.specs.Graphs.{Name, ProtectionGraph}
+use Rattle.tg_names.specs.declared.right_sets.Right.TheVariants.{T, G}
+use Rattle.tg_names.specs.Sets.{member}
+use Rattle.tg_rows.specs.Rows.{Entries, row_number}
+use Rattle.tg_names.specs.Names.{Name}
+use Rattle.tg_graph.specs.Graphs.{ProtectionGraph}
 use Rattle.tg_analysis.specs.Sharing.{linked}
 
 -- for each position the positions of its neighbours

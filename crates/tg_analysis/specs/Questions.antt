@@ -1,7 +1,8 @@
 -- Which fault a question about two names meets.
 use Rattle.std.specs.Prelude.{◌≡◌, not, if◌then◌else◌, nat_lt, length, Option, Some, None}
 use Rattle.tg_graph.specs.Limits.{most_vertices}
-use Rattle.tg_graph.specs.Graphs.{Name, ProtectionGraph, has_vertex}
+use Rattle.tg_names.specs.Names.{Name}
+use Rattle.tg_graph.specs.Graphs.{ProtectionGraph, has_vertex}
 use Rattle.tg_analysis.specs.declared.questions.AskFault.{AskFault}
 use Rattle.tg_analysis.specs.declared.questions.AskFault.TheVariants.{Unknown, TooLarge, Memory}
 

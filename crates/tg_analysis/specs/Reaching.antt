@@ -1,11 +1,12 @@
 -- Who can come to have rights over one vertex, and which rights one vertex can come to have over each.
 use Rattle.std.specs.Prelude.{◌≡◌, ℕ, ◌<◌, ◌↔◌, Bool, true, false, ◌||◌, ◌&&◌, not, IsTrue, if◌then◌else◌, nat_eq, List, length, slice_get, slice_index_or, Option, Some, None, ◌⊎◌}
 use Rattle.std.specs.Map.{keys_of}
-use Rattle.tg_graph.specs.declared.right_sets.Right.{Right}
-use Rattle.tg_graph.specs.declared.right_sets.Rights.{Rights}
-use Rattle.tg_graph.specs.Sets.{member, nothing, IsNamed}
-use Rattle.tg_graph.specs.Graphs.{Name, ProtectionGraph, has_vertex}
-use Rattle.tg_graph.specs.Rows.{Entries, row_number, label_in}
+use Rattle.tg_names.specs.declared.right_sets.Right.{Right}
+use Rattle.tg_names.specs.declared.right_sets.Rights.{Rights}
+use Rattle.tg_names.specs.Sets.{member, nothing, IsNamed}
+use Rattle.tg_names.specs.Names.{Name}
+use Rattle.tg_graph.specs.Graphs.{ProtectionGraph, has_vertex}
+use Rattle.tg_rows.specs.Rows.{Entries, row_number, label_in}
 use Rattle.tg_graph.specs.RuleLists.{CanShare, CanShareAll}
 use Rattle.tg_analysis.specs.declared.questions.AskFault.{AskFault}
 use Rattle.tg_analysis.specs.declared.questions.AskFault.TheVariants.{Unknown}

@@ -1,14 +1,15 @@
 -- Lists of rules that carry the rights of a set from vertices to another, one right after the other.
 use Rattle.std.specs.Prelude.{◌≡◌, ℕ, ◌+◌, ◌*◌, ◌-◌, ◌≤◌, ◌↔◌, IsTrue, IsFalse, List, [], ◌∷◌, ◌++◌, length}
 use Rattle.std.specs.List.{AllByRecursion, filter, list_any}
-use Rattle.tg_graph.specs.declared.right_sets.Right.{Right}
-use Rattle.tg_graph.specs.declared.right_sets.Rights.{Rights}
+use Rattle.tg_names.specs.declared.right_sets.Right.{Right}
+use Rattle.tg_names.specs.declared.right_sets.Rights.{Rights}
 use Rattle.tg_graph.specs.declared.rules.Rule.{Rule}
 use Rattle.tg_graph.specs.declared.rules.Rule.TheVariants.{Take, Grant, Create, Remove}
-use Rattle.tg_graph.specs.Sets.{member}
-use Rattle.tg_graph.specs.Letters.{all_rights}
+use Rattle.tg_names.specs.Sets.{member}
+use Rattle.tg_names.specs.Letters.{all_rights}
 use Rattle.tg_graph.specs.Limits.{most_vertices}
-use Rattle.tg_graph.specs.Graphs.{Name, same_name, ProtectionGraph, has_vertex}
+use Rattle.tg_names.specs.Names.{Name, same_name}
+use Rattle.tg_graph.specs.Graphs.{ProtectionGraph, has_vertex}
 use Rattle.tg_graph.specs.RuleLists.{AllAccepted, after_all}
 use Rattle.tg_analysis.specs.Sharing.{NoRepeat}
 use Rattle.tg_analysis.specs.Moves.{only}

@@ -1,13 +1,13 @@
 -- Links, chains and islands, and what they say of sharing.
 use Rattle.std.specs.Prelude.{◌≡◌, ℕ, ◌<◌, ◌^◌, length, ◌↔◌, ◌≤◌, ◌*◌, ⊤, IsFalse, Bool, ◌||◌, IsTrue, List, [], ◌∷◌}
-use Rattle.tg_graph.specs.declared.right_sets.Right.{Right}
-use Rattle.tg_graph.specs.declared.right_sets.Right.TheVariants.{T, G}
+use Rattle.tg_names.specs.declared.right_sets.Right.{Right}
+use Rattle.tg_names.specs.declared.right_sets.Right.TheVariants.{T, G}
 use Rattle.tg_graph.specs.declared.rules.Rule.{Rule}
 use Rattle.std.specs.List.{list_any}
-use Rattle.tg_graph.specs.declared.right_sets.Rights.{Rights}
-use Rattle.tg_graph.specs.Names.{IsName, helper_name}
-use Rattle.tg_graph.specs.Sets.{member}
-use Rattle.tg_graph.specs.Graphs.{Name, same_name, ProtectionGraph, has_vertex, WellFormed}
+use Rattle.tg_names.specs.declared.right_sets.Rights.{Rights}
+use Rattle.tg_names.specs.Names.{IsName, helper_name, Name, same_name}
+use Rattle.tg_names.specs.Sets.{member}
+use Rattle.tg_graph.specs.Graphs.{ProtectionGraph, has_vertex, WellFormed}
 use Rattle.tg_graph.specs.RuleLists.{AllAccepted, after_all, LeadsTo, CanShare, CanShareAll}
 
 -- an edge between u and v, in either direction, holds take or grant

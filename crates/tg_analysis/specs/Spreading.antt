@@ -1,12 +1,13 @@
 -- A flood from one vertex that looks for holders of rights.
 use Rattle.std.specs.Prelude.{◌≡◌, ℕ, ◌<◌, ◌+◌, Bool, true, false, IsTrue, List, [], ◌∷◌, length, replicate, slice_get, Some, None, is_some, ◌⊎◌}
 use Rattle.std.specs.Map.{keys_of}
-use Rattle.tg_graph.specs.declared.right_sets.Right.{Right}
-use Rattle.tg_graph.specs.declared.right_sets.Rights.{Rights}
-use Rattle.tg_graph.specs.Sets.{member, IsNamed}
-use Rattle.tg_graph.specs.Graphs.{Name, ProtectionGraph}
+use Rattle.tg_names.specs.declared.right_sets.Right.{Right}
+use Rattle.tg_names.specs.declared.right_sets.Rights.{Rights}
+use Rattle.tg_names.specs.Sets.{member, IsNamed}
+use Rattle.tg_names.specs.Names.{Name}
+use Rattle.tg_graph.specs.Graphs.{ProtectionGraph}
 use Rattle.tg_graph.specs.GraphOf.{graph_of}
-use Rattle.tg_graph.specs.Rows.{Entries, row_number}
+use Rattle.tg_rows.specs.Rows.{Entries, row_number}
 use Rattle.tg_analysis.specs.declared.flooding.Flood.{Flood}
 use Rattle.tg_analysis.specs.declared.spreading.Asked.{Asked}
 use Rattle.tg_analysis.specs.declared.spreading.Spread.{Spread}

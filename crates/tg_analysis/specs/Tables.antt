@@ -1,10 +1,11 @@
 -- The table of all pairs, the blocks of rows in which workers compute it, and its faults.
 use Rattle.std.specs.Prelude.{◌≡◌, ℕ, ◌+◌, ◌*◌, ◌/◌, ◌<◌, ◌≤◌, ◌↔◌, Bool, ◌||◌, IsTrue, if◌then◌else◌, nat_eq, nat_lt, List, length, slice_get, slice_index_or, Option, Some, None, Result, IfOk, ◌⊎◌}
 use Rattle.std.specs.Option.{option_map}
-use Rattle.tg_graph.specs.declared.right_sets.Right.{Right}
+use Rattle.tg_names.specs.declared.right_sets.Right.{Right}
 use Rattle.tg_graph.specs.Limits.{most_vertices}
-use Rattle.tg_graph.specs.Graphs.{Name, ProtectionGraph}
-use Rattle.tg_graph.specs.Rows.{Entries}
+use Rattle.tg_names.specs.Names.{Name}
+use Rattle.tg_graph.specs.Graphs.{ProtectionGraph}
+use Rattle.tg_rows.specs.Rows.{Entries}
 use Rattle.tg_graph.specs.RuleLists.{CanShare}
 use Rattle.tg_analysis.specs.Holdings.{holds_over}
 use Rattle.tg_analysis.specs.Gathered.{Gathers}

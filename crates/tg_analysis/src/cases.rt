@@ -1,6 +1,6 @@
 //! Cases of a right, an x and a y, and which of them comes first.
 ghost use Rattle.std.specs.Prelude.{◌≡◌};
-ghost use Rattle.tg_graph.specs.Sets.{bit_of};
+ghost use Rattle.tg_names.specs.Sets.{bit_of};
 ghost use Rattle.tg_analysis.specs.Cases.{is_sooner, sooner_of, earlier_of, IsFirstInBoth};
 
 use tg_graph::{Name, Right, Rights};

@@ -1,7 +1,7 @@
 //! The positions that a flood has met.
 ghost use Rattle.std.specs.Prelude.{◌≡◌, ◌<◌, [], ◌∷◌, IfOk, IfSome, OnOk, true, length, replicate, None, ℕ};
 ghost use Rattle.std.specs.Map.{keys_of};
-ghost use Rattle.tg_graph.specs.Rows.{row_number};
+ghost use Rattle.tg_rows.specs.Rows.{row_number};
 ghost use Rattle.tg_analysis.specs.Linked.{neighbours, is_near};
 ghost use Rattle.tg_analysis.specs.Flooding.{Meets, MeetsEnd, MeetsEnds};
 

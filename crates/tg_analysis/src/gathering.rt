@@ -1,7 +1,7 @@
 //! Gathering what islands hold, from the edges.
 ghost use Rattle.std.specs.Prelude.{◌≡◌, ◌≤◌, IfOk, IfSome, OnOk, length};
 ghost use Rattle.tg_graph.specs.Limits.{most_vertices};
-ghost use Rattle.tg_graph.specs.Rows.{row_number};
+ghost use Rattle.tg_rows.specs.Rows.{row_number};
 ghost use Rattle.tg_analysis.specs.Numbering.{AreCounted};
 ghost use Rattle.tg_analysis.specs.Gathered.{target_of, TakesEdge, TakesEdges, Gathers};
 

@@ -1,7 +1,7 @@
 //! What islands hold over one vertex, edge by edge.
 ghost use Rattle.std.specs.Prelude.{◌≡◌, ◌↔◌, ◌<◌, ◌+◌, ℕ, Some, IfOk, OnOk, IsTrue, length, slice_get};
-ghost use Rattle.tg_graph.specs.declared.right_sets.Right.{Right};
-ghost use Rattle.tg_graph.specs.Sets.{member};
+ghost use Rattle.tg_names.specs.declared.right_sets.Right.{Right};
+ghost use Rattle.tg_names.specs.Sets.{member};
 ghost use Rattle.tg_analysis.specs.Cases.{AreHeads, AreRising, IsClaim, IsClaimOf, IsClaimWithout, IsFirstWithout, IsLackOf, IsSaid, IsSoonest, JoinsUpTo, rights_under};
 
 use crate::cases::{Claimed, first_in_both, sooner};

@@ -1,7 +1,7 @@
 //! Who holds rights over one vertex.
 ghost use Rattle.std.specs.Prelude.{◌≡◌, IsTrue};
-ghost use Rattle.tg_graph.specs.declared.right_sets.Right.{Right};
-ghost use Rattle.tg_graph.specs.Sets.{member, IsNamed};
+ghost use Rattle.tg_names.specs.declared.right_sets.Right.{Right};
+ghost use Rattle.tg_names.specs.Sets.{member, IsNamed};
 ghost use Rattle.tg_graph.specs.GraphOf.{graph_of};
 ghost use Rattle.tg_analysis.specs.Holders.{AreHeld};
 

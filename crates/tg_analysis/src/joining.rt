@@ -2,7 +2,7 @@
 ghost use Rattle.std.specs.Prelude.{◌≡◌, ◌<◌, ◌+◌, ℕ, IfOk, IfSome, OnOk, length};
 ghost use Rattle.std.specs.Map.{keys_of};
 ghost use Rattle.tg_graph.specs.GraphOf.{graph_of};
-ghost use Rattle.tg_graph.specs.Rows.{IsGraph, row_number};
+ghost use Rattle.tg_rows.specs.Rows.{IsGraph, row_number};
 ghost use Rattle.tg_analysis.specs.Numbering.{AreIslands};
 ghost use Rattle.tg_analysis.specs.DisjointSets.{set_of, StayTogether};
 ghost use Rattle.tg_analysis.specs.JoinedSets.{JoinedUpTo, NumbersUpTo, NumberSets};

@@ -2,7 +2,7 @@
 ghost use Rattle.std.specs.Prelude.{◌≡◌, ◌<◌, ◌+◌, ◌++◌, ◌∷◌, [], IfOk, IfSome, OnOk, length, replicate};
 ghost use Rattle.std.specs.Map.{keys_of};
 ghost use Rattle.tg_graph.specs.GraphOf.{graph_of};
-ghost use Rattle.tg_graph.specs.Rows.{row_number};
+ghost use Rattle.tg_rows.specs.Rows.{row_number};
 ghost use Rattle.tg_analysis.specs.Linked.{neighbours, linked_end, AreLinks, AddsNeighbour, JoinsNeighbours, LinksUpTo};
 
 use crate::positions::Positions;

@@ -1,5 +1,5 @@
 //! Graphs that are made from a seed, the same for the same seed.
-ghost use Rattle.tg_graph.specs.Sets.{IsNamed};
+ghost use Rattle.tg_names.specs.Sets.{IsNamed};
 
 use crate::test_graphs::set;
 use std::alloc::Global;

@@ -1,6 +1,6 @@
 //! The rules that carry a right over one link.
 ghost use Rattle.std.specs.Prelude.{◌≡◌, ℕ, ◌+◌, ◌^◌, ◌<◌, ◌≤◌, true, false, IsTrue, IfOk, length};
-ghost use Rattle.tg_graph.specs.Names.{helper_name};
+ghost use Rattle.tg_names.specs.Names.{helper_name};
 ghost use Rattle.tg_graph.specs.Limits.{most_vertices};
 ghost use Rattle.tg_graph.specs.Graphs.{has_vertex, WellFormed};
 ghost use Rattle.tg_graph.specs.GraphOf.{graph_of};

@@ -3,10 +3,10 @@
 //! The islands are found first. Then `who` looks at each row once, and `reach` at those of x's island.
 ghost use Rattle.std.specs.Prelude.{◌≡◌, ◌↔◌, ◌<◌, ◌+◌, ℕ, true, IsTrue, IfOk, IfErr, IfSome, OnOk, None, Some, length, replicate, slice_get};
 ghost use Rattle.std.specs.Map.{keys_of};
-ghost use Rattle.tg_graph.specs.Sets.{IsNamed, nothing};
+ghost use Rattle.tg_names.specs.Sets.{IsNamed, nothing};
 ghost use Rattle.tg_graph.specs.Graphs.{has_vertex};
 ghost use Rattle.tg_graph.specs.GraphOf.{graph_of};
-ghost use Rattle.tg_graph.specs.Rows.{IsGraph, row_number};
+ghost use Rattle.tg_rows.specs.Rows.{IsGraph, row_number};
 ghost use Rattle.tg_analysis.specs.Numbering.{AreCounted};
 ghost use Rattle.tg_analysis.specs.Questions.{IsDueFault};
 ghost use Rattle.tg_analysis.specs.Reaching.{name_fault, TellWho, TellReach, set_at, AreNamedSets, GainsRights, HoldUpTo, HasEach, MarkUpTo, GainsLabel, GainLabels, ReachUpTo};

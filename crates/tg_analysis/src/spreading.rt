@@ -4,11 +4,11 @@
 //! and the edges that it reads. The count decides no answer.
 ghost use Rattle.std.specs.Prelude.{◌≡◌, ◌↔◌, ◌<◌, ◌+◌, ◌∷◌, [], ℕ, true, IsTrue, IfOk, IfSome, OnOk, MatchBool, ◌⊎◌, length};
 ghost use Rattle.std.specs.Map.{keys_of};
-ghost use Rattle.tg_graph.specs.declared.right_sets.Right.{Right};
-ghost use Rattle.tg_graph.specs.Sets.{member, is_empty_set, IsNamed};
+ghost use Rattle.tg_names.specs.declared.right_sets.Right.{Right};
+ghost use Rattle.tg_names.specs.Sets.{member, is_empty_set, IsNamed};
 ghost use Rattle.tg_graph.specs.Graphs.{has_vertex};
 ghost use Rattle.tg_graph.specs.GraphOf.{graph_of};
-ghost use Rattle.tg_graph.specs.Rows.{IsGraph, row_number};
+ghost use Rattle.tg_rows.specs.Rows.{IsGraph, row_number};
 ghost use Rattle.tg_graph.specs.RuleLists.{CanShareAll};
 ghost use Rattle.tg_analysis.specs.Sharing.{HeldInIsland};
 ghost use Rattle.tg_analysis.specs.Linked.{is_near};

@@ -1,7 +1,7 @@
 //! Graphs and rules for tests, in words: "a b c" are three vertices, "a b t, b c r" two edges, and
 //! "take a b c r" is a rule. A word that is none fails its test. The calls tell nothing of what they
 //! did, so the check of a test that makes many of them stays short.
-ghost use Rattle.tg_graph.specs.Sets.{IsNamed};
+ghost use Rattle.tg_names.specs.Sets.{IsNamed};
 
 use std::alloc::Global;
 use std::process::Abort;

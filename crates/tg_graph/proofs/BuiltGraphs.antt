@@ -11,19 +11,20 @@ use Rattle.std.proofs.Math.ListN.{get_or-eq_default}
 use Rattle.std.proofs.lemmas.Bool.{cases_lt}
 use Rattle.std.proofs.lemmas.Option.{same_Some}
 use Rattle.indexmap.specs.Layout.{set_value_at, length-set_value_at}
-use Rattle.tg_graph.specs.declared.right_sets.Right.{Right}
-use Rattle.tg_graph.specs.declared.right_sets.Rights.{Rights}
+use Rattle.tg_names.specs.declared.right_sets.Right.{Right}
+use Rattle.tg_names.specs.declared.right_sets.Rights.{Rights}
 use Rattle.tg_graph.specs.declared.protection.EdgeFault.{EdgeFault}
 use Rattle.tg_graph.specs.declared.protection.EdgeFault.TheVariants.{Memory, EdgeThere, Empty, Unknown}
-use Rattle.tg_graph.specs.Sets.{member, nothing, rights_where, is_empty_set, IsNamed}
-use Rattle.tg_graph.specs.Graphs.{Name, has_vertex}
+use Rattle.tg_names.specs.Sets.{member, nothing, rights_where, is_empty_set, IsNamed}
+use Rattle.tg_names.specs.Names.{Name}
+use Rattle.tg_graph.specs.Graphs.{has_vertex}
 use Rattle.tg_graph.specs.GraphOf.{graph_of}
-use Rattle.tg_graph.specs.Rows.{Edges, Entries, IsRow, IsGraph, label_in, label_of, is_target, is_known}
+use Rattle.tg_rows.specs.Rows.{Edges, Entries, IsRow, IsGraph, label_in, label_of, is_target, is_known}
 use Rattle.tg_graph.specs.Rules.{with_edge, with_rights}
 use Rattle.tg_graph.specs.Additions.{label_between, edge_fault_of, AddsEdge}
 use Rattle.tg_graph.specs.Waiting.{item_of, label_for, waiting_of, waiting_or, label_built, graph_built, MayWait, HasMoved}
-use Rattle.tg_graph.proofs.Rows.{symm, same_bytes}
-use Rattle.tg_graph.proofs.Sets.{member-nothing, where-member}
+use Rattle.tg_rows.proofs.Rows.{symm, same_bytes}
+use Rattle.tg_names.proofs.Sets.{member-nothing, where-member}
 use Rattle.tg_graph.proofs.Positions.{at-position, among-at}
 use Rattle.tg_graph.proofs.TakenOver.{position-at, set-at}
 use Rattle.tg_graph.proofs.Drafts.{lookup-put}

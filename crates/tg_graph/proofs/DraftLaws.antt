@@ -7,9 +7,9 @@ use Rattle.std.proofs.Math.Bool.{or-true}
 use Rattle.std.proofs.lemmas.List.Folds.{list_any-append}
 use Rattle.std.proofs.lemmas.Map.Made.{is_some-lookup}
 use Rattle.indexmap.specs.IndexMap.{insert_all}
-use Rattle.tg_graph.specs.declared.right_sets.Right.{Right}
-use Rattle.tg_graph.specs.Sets.{member, nothing}
-use Rattle.tg_graph.specs.Rows.{Edges, Entries, label_in, is_known}
+use Rattle.tg_names.specs.declared.right_sets.Right.{Right}
+use Rattle.tg_names.specs.Sets.{member, nothing}
+use Rattle.tg_rows.specs.Rows.{Edges, Entries, label_in, is_known}
 use Rattle.tg_graph.specs.GraphOf.{graph_of}
 use Rattle.tg_graph.specs.Drafts.{Changes, is_created, laid_over, Fits, FitsByNames, IsDraft, AreApart, FittingIsByNames, ApartFit, ApartCommute}
 use Rattle.tg_graph.proofs.NewNames.{filter-alike}

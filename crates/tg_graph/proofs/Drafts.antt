@@ -14,14 +14,14 @@ use Rattle.indexmap.specs.IndexMap.{insert_entry, insert_all}
 use Rattle.indexmap.specs.IndexSet.{insert_key, insert_all as set_all}
 use Rattle.indexmap.proofs.MapLemmas.{insert_all_push}
 use Rattle.indexmap.proofs.SetLemmas.{keys_insert_entry, keys_insert_all}
-use Rattle.tg_graph.specs.declared.right_sets.Rights.{Rights}
-use Rattle.tg_graph.specs.Rows.{Edges, Entries, Adds, TakesAway, IsGraph, IsRow, is_target, has_edge, is_known}
-use Rattle.tg_graph.specs.Names.{IsName}
+use Rattle.tg_names.specs.declared.right_sets.Rights.{Rights}
+use Rattle.tg_rows.specs.Rows.{Edges, Entries, Adds, TakesAway, IsGraph, IsRow, is_target, has_edge, is_known}
+use Rattle.tg_names.specs.Names.{IsName}
 use Rattle.tg_graph.specs.GraphOf.{graph_of}
 use Rattle.tg_graph.specs.Rules.{with_rights, without_rights, with_vertex}
 use Rattle.tg_graph.specs.Drafts.{Changes, is_created, laid_over, Fits, AreRows, IsDraft, PutsRow}
 use Rattle.tg_graph.proofs.NewNames.{is_among, new_names, filter-alike, among-filter, not_among, set-new, set-push}
-use Rattle.tg_graph.proofs.Rows.{symm, same_bytes, row_none}
+use Rattle.tg_rows.proofs.Rows.{symm, same_bytes, row_none}
 use Rattle.tg_graph.proofs.Graphs.{AltersRow, graph-adds, is_graph-adds, graph-takes, is_graph-takes, graph-creates, is_graph-creates}
 
 -- ---- one row put in

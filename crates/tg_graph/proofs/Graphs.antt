@@ -9,16 +9,16 @@ use Rattle.std.proofs.lemmas.Map.{lookup-set_value, keys-set_value}
 use Rattle.std.proofs.lemmas.Map.Made.{is_some-lookup}
 use Rattle.std.proofs.lemmas.Map.Steps.{set_value_same}
 use Rattle.std.specs.List.{IsDistinct}
-use Rattle.tg_graph.specs.declared.right_sets.Right.{Right}
-use Rattle.tg_graph.specs.declared.right_sets.Rights.{Rights}
-use Rattle.tg_graph.specs.Sets.{member, nothing}
-use Rattle.tg_graph.specs.Rows.{Edges, Entries, Adds, TakesAway, ChangesRow, IsGraph, IsRow, label_in, label_of, is_target, has_edge, is_known}
-use Rattle.tg_graph.specs.Names.{IsName}
+use Rattle.tg_names.specs.declared.right_sets.Right.{Right}
+use Rattle.tg_names.specs.declared.right_sets.Rights.{Rights}
+use Rattle.tg_names.specs.Sets.{member, nothing}
+use Rattle.tg_rows.specs.Rows.{Edges, Entries, Adds, TakesAway, ChangesRow, IsGraph, IsRow, label_in, label_of, is_target, has_edge, is_known}
+use Rattle.tg_names.specs.Names.{IsName}
 use Rattle.tg_graph.specs.Graphs.{WellFormed}
 use Rattle.tg_graph.specs.GraphOf.{graph_of}
 use Rattle.tg_graph.specs.Rules.{with_edge, without_edge, with_rights, without_rights, with_vertex}
-use Rattle.tg_graph.proofs.Rows.{symm, same_bytes, row_none}
-use Rattle.tg_graph.proofs.Sets.{member-nothing}
+use Rattle.tg_rows.proofs.Rows.{symm, same_bytes, row_none}
+use Rattle.tg_names.proofs.Sets.{member-nothing}
 use Rattle.std.proofs.lemmas.List.{map-append}
 use Rattle.std.proofs.lemmas.List.Folds.{list_any-append}
 use Rattle.std.proofs.lemmas.Map.Keys.{IsDistinct-push}

@@ -8,7 +8,7 @@ use Rattle.std.proofs.lemmas.List.{append-nil, append_assoc}
 use Rattle.std.proofs.lemmas.List.Folds.{list_any-append}
 use Rattle.std.proofs.lemmas.Map.Views.{any-filter_same}
 use Rattle.indexmap.specs.IndexSet.{insert_key, insert_all}
-use Rattle.tg_graph.proofs.Rows.{same_bytes}
+use Rattle.tg_rows.proofs.Rows.{same_bytes}
 
 abbrev pub is_among : List (List ℕ) → List ℕ → Bool
 is_among ks v = list_any (bytes_eq v) ks

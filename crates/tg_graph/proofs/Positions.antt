@@ -11,12 +11,12 @@ use Rattle.std.specs.Cmp.Lexicographic.{nat_list_eq_equiv}
 use Rattle.indexmap.specs.IndexSet.{insert_key, insert_all as set_all}
 use Rattle.tg_graph.specs.Drafts.{NotesPosition}
 use Rattle.tg_graph.proofs.NewNames.{is_among, set-push}
-use Rattle.tg_graph.proofs.Rows.{symm, same_bytes}
+use Rattle.tg_rows.proofs.Rows.{symm, same_bytes}
 use Rattle.tg_graph.proofs.TakenOver.{keys-kept}
 use Rattle.std.specs.Map.{keys_of}
 use Rattle.std.proofs.lemmas.Map.Made.{is_some-lookup}
 use Rattle.indexmap.proofs.MapLemmas.{some_index}
-use Rattle.tg_graph.specs.Rows.{Entries, is_known}
+use Rattle.tg_rows.specs.Rows.{Entries, is_known}
 
 -- ---- where a name stands
 pub at-position : (ks : List (List ℕ)) (v : List ℕ) (p : ℕ) → position (bytes_eq v) ks ≡ Some p → slice_get ks p ≡ Some v

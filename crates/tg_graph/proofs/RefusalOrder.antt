@@ -4,19 +4,20 @@ use Rattle.std.specs.Bool.{IsTrue}
 use Rattle.std.specs.List.{AllByRecursion}
 use Rattle.std.proofs.lemmas.Bool.Decides.{Decides-eqb}
 use Rattle.std.proofs.lemmas.List.Elements.{All-nil, All-from_recursion, recursion_from_All}
-use Rattle.tg_graph.specs.declared.right_sets.Right.{Right}
-use Rattle.tg_graph.specs.declared.right_sets.Right.TheVariants.{T, G}
-use Rattle.tg_graph.specs.declared.right_sets.Rights.{Rights}
+use Rattle.tg_names.specs.declared.right_sets.Right.{Right}
+use Rattle.tg_names.specs.declared.right_sets.Right.TheVariants.{T, G}
+use Rattle.tg_names.specs.declared.right_sets.Rights.{Rights}
 use Rattle.tg_graph.specs.declared.rules.Rule.{Rule}
 use Rattle.tg_graph.specs.declared.rules.Rule.TheVariants.{Take, Grant, Create, Remove}
 use Rattle.tg_graph.specs.declared.rules.Refusal.{Refusal}
 use Rattle.tg_graph.specs.declared.rules.Refusal.TheVariants.{Unknown, Taken, Empty, NoTake, NoGrant, NotHeld, Full}
-use Rattle.tg_graph.specs.Sets.{member, IsNamed, nothing, is_empty_set}
-use Rattle.tg_graph.specs.Graphs.{Name, ProtectionGraph, has_vertex}
+use Rattle.tg_names.specs.Sets.{member, IsNamed, nothing, is_empty_set}
+use Rattle.tg_names.specs.Names.{Name}
+use Rattle.tg_graph.specs.Graphs.{ProtectionGraph, has_vertex}
 use Rattle.tg_graph.specs.Rules.{refusal_of, missing, rights_of}
 use Rattle.tg_graph.specs.RefusalOrder.{vertices_of, IsFirstUnknown, HasNone, IsLacking, RefusalHolds, refusal_number, IsLeastRefusal}
 use Rattle.tg_graph.specs.Laws.{LeastRefusal, AcceptedWhereNone, NeverFull}
-use Rattle.tg_graph.proofs.Sets.{member-nothing, member-where, named-where, same_set}
+use Rattle.tg_names.proofs.Sets.{member-nothing, member-where, named-where, same_set}
 
 not_true : (b : Bool) → b ≡ false → ¬ IsTrue b
 not_true b e h = true≢false (sym h ∙ e)

@@ -15,16 +15,17 @@ use Rattle.std.proofs.lemmas.Map.Entries.{lookup_head, lookup_tail, none_past_he
 use Rattle.std.proofs.lemmas.Map.Keys.{sorted_tail}
 use Rattle.std.proofs.lemmas.Map.Lookups.{exact_bytes}
 use Rattle.std.proofs.lemmas.Map.Made.{is_some-lookup}
-use Rattle.tg_graph.specs.declared.right_sets.Rights.{Rights}
-use Rattle.tg_graph.specs.Sets.{member, rights_where, nothing, is_empty_set, IsNamed}
-use Rattle.tg_graph.specs.Graphs.{Name, ProtectionGraph, SameGraph}
+use Rattle.tg_names.specs.declared.right_sets.Rights.{Rights}
+use Rattle.tg_names.specs.Sets.{member, rights_where, nothing, is_empty_set, IsNamed}
+use Rattle.tg_names.specs.Names.{Name}
+use Rattle.tg_graph.specs.Graphs.{ProtectionGraph, SameGraph}
 use Rattle.tg_graph.specs.GraphOf.{graph_of}
-use Rattle.tg_graph.specs.Rows.{Edges, Entries, IsGraph, IsRow, IsLabel, label_in, label_of, is_target}
+use Rattle.tg_rows.specs.Rows.{Edges, Entries, IsGraph, IsRow, IsLabel, label_in, label_of, is_target}
 use Rattle.tg_graph.specs.Additions.{label_between}
 use Rattle.tg_graph.specs.RowsOf.{IsRowOf, unless_empty}
 use Rattle.tg_graph.specs.Laws.{RowsOfGraph, SameRows}
-use Rattle.tg_graph.proofs.Sets.{where-member}
-use Rattle.tg_graph.proofs.Places.{name_cmp, IsUp, distinct_from_up}
+use Rattle.tg_names.proofs.Sets.{where-member}
+use Rattle.tg_rows.proofs.Places.{name_cmp, IsUp, distinct_from_up}
 
 -- ---- rows in name order with the same labels are the same
 at_head : (x : List ℕ × Rights) (xs : Edges) → lookup (bytes_eq x.0) (x ∷ xs) ≡ Some x.1

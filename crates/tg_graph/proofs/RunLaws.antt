@@ -6,7 +6,7 @@ use Rattle.std.proofs.lemmas.Option.{none-some}
 use Rattle.tg_graph.specs.declared.rules.Rule.{Rule}
 use Rattle.tg_graph.specs.declared.rules.Rule.TheVariants.{Take, Grant, Create, Remove}
 use Rattle.tg_graph.specs.declared.rules.RuleFault.TheVariants.{Refused, Memory}
-use Rattle.tg_graph.specs.Sets.{IsNamed}
+use Rattle.tg_names.specs.Sets.{IsNamed}
 use Rattle.tg_graph.specs.Graphs.{ProtectionGraph}
 use Rattle.tg_graph.specs.Rules.{refusal_of, after, rights_of}
 use Rattle.tg_graph.specs.RuleWords.{IsRule}

@@ -2,11 +2,11 @@
 use Rattle.std.proofs.Common.{◌≡◌, ℕ, List, [], ◌∷◌, ◌++◌, ◌&&◌, ◌||◌, not, None, sym, subst, ◌∙◌, bytes_eq}
 use Rattle.std.specs.List.{list_any}
 use Rattle.std.proofs.lemmas.List.Folds.{list_any-append}
-use Rattle.tg_graph.specs.declared.right_sets.Right.TheVariants.{T, G}
+use Rattle.tg_names.specs.declared.right_sets.Right.TheVariants.{T, G}
 use Rattle.tg_graph.specs.declared.rules.Rule.{Rule}
 use Rattle.tg_graph.specs.declared.rules.Rule.TheVariants.{Take, Grant, Create, Remove}
 use Rattle.tg_graph.specs.declared.rules.Refusal.TheVariants.{Unknown, Taken, Empty, NoTake, NoGrant}
-use Rattle.tg_graph.specs.Sets.{member, rights_where, is_empty_set}
+use Rattle.tg_names.specs.Sets.{member, rights_where, is_empty_set}
 use Rattle.tg_graph.specs.Graphs.{ProtectionGraph, SameGraph}
 use Rattle.tg_graph.specs.Rules.{refusal_of, after, refused_if, not_held, with_edge, without_edge}
 use Rattle.tg_graph.specs.Additions.{Leads}

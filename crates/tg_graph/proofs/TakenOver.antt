@@ -14,12 +14,12 @@ use Rattle.indexmap.specs.IndexMap.{insert_entry, insert_all}
 use Rattle.indexmap.specs.IndexSet.{insert_key, insert_all as set_all}
 use Rattle.indexmap.specs.Layout.{set_value_at}
 use Rattle.indexmap.proofs.SetLemmas.{keys_insert_all}
-use Rattle.tg_graph.specs.Rows.{Edges, Entries, IsGraph, IsRow, is_target, is_known}
+use Rattle.tg_rows.specs.Rows.{Edges, Entries, IsGraph, IsRow, is_target, is_known}
 use Rattle.std.specs.List.{position, position_or_len}
 use Rattle.std.proofs.lemmas.List.Sums.{position_or_len_is}
 use Rattle.tg_graph.specs.Drafts.{entries_at, taken_over}
 use Rattle.tg_graph.proofs.NewNames.{is_among}
-use Rattle.tg_graph.proofs.Rows.{symm, same_bytes}
+use Rattle.tg_rows.proofs.Rows.{symm, same_bytes}
 use Rattle.tg_graph.proofs.Drafts.{lookup-put, put-set}
 
 -- a vertex that is apart from each of some is apart from the one at a place

@@ -10,15 +10,15 @@ use Rattle.std.proofs.lemmas.Bool.{cases_lt}
 use Rattle.std.proofs.lemmas.List.Quantifiers.{position-Some}
 use Rattle.std.proofs.lemmas.Map.Entries.{lookup_from_place}
 use Rattle.std.proofs.lemmas.Option.{none-some, same_Some, slice_get-map, slice_get_within, get_or_from_slice_get}
-use Rattle.tg_graph.specs.declared.right_sets.Right.{Right}
-use Rattle.tg_graph.specs.declared.right_sets.Rights.{Rights}
-use Rattle.tg_graph.specs.Sets.{member, nothing, IsNamed}
-use Rattle.tg_graph.specs.Graphs.{Name}
-use Rattle.tg_graph.specs.Rows.{Edges, Entries, Adds, IsGraph, IsLabel, IsRow, label_in, label_of, is_target, row_number}
+use Rattle.tg_names.specs.declared.right_sets.Right.{Right}
+use Rattle.tg_names.specs.declared.right_sets.Rights.{Rights}
+use Rattle.tg_names.specs.Sets.{member, nothing, IsNamed}
+use Rattle.tg_names.specs.Names.{Name}
+use Rattle.tg_rows.specs.Rows.{Edges, Entries, Adds, IsGraph, IsLabel, IsRow, label_in, label_of, is_target, row_number}
 use Rattle.tg_graph.specs.Waiting.{label_for, IsMoving, HasMoved}
-use Rattle.tg_graph.proofs.Rows.{symm, same_bytes, row_none}
-use Rattle.tg_graph.proofs.Sets.{member-nothing}
-use Rattle.tg_graph.proofs.Places.{distinct_from_up}
+use Rattle.tg_rows.proofs.Rows.{symm, same_bytes, row_none}
+use Rattle.tg_names.proofs.Sets.{member-nothing}
+use Rattle.tg_rows.proofs.Places.{distinct_from_up}
 use Rattle.tg_graph.proofs.Positions.{among-at}
 use Rattle.tg_graph.proofs.TakenOver.{differs}
 use Rattle.tg_graph.proofs.BuiltGraphs.{item-at, item-each, set-here, set-away}

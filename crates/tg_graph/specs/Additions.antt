@@ -1,14 +1,15 @@
 -- What the calls that build a graph do, and what a list of rules does.
 use Rattle.std.specs.Prelude.{◌≡◌, ℕ, true, false, ◌&&◌, not, if◌then◌else◌, List, [], ◌∷◌, take, slice_get, All, Option, Some, None, Result, Ok, Err}
-use Rattle.tg_graph.specs.declared.right_sets.Rights.{Rights}
+use Rattle.tg_names.specs.declared.right_sets.Rights.{Rights}
 use Rattle.tg_graph.specs.declared.protection.VertexFault.{VertexFault}
 use Rattle.tg_graph.specs.declared.protection.VertexFault.TheVariants.{Taken, Memory}
 use Rattle.tg_graph.specs.declared.protection.EdgeFault.{EdgeFault}
 use Rattle.tg_graph.specs.declared.protection.EdgeFault.TheVariants as edge
 use Rattle.tg_graph.specs.declared.rules.Rule.{Rule}
 use Rattle.tg_graph.specs.declared.rules.RuleFault.{RuleFault}
-use Rattle.tg_graph.specs.Sets.{rights_where, is_empty_set, IsNamed}
-use Rattle.tg_graph.specs.Graphs.{Name, ProtectionGraph, has_vertex}
+use Rattle.tg_names.specs.Sets.{rights_where, is_empty_set, IsNamed}
+use Rattle.tg_names.specs.Names.{Name}
+use Rattle.tg_graph.specs.Graphs.{ProtectionGraph, has_vertex}
 use Rattle.tg_graph.specs.Rules.{with_vertex, with_rights, refusal_of, after, rights_of, Applies}
 
 -- an outcome of `add_vertex`

@@ -5,10 +5,10 @@ use Rattle.std.specs.Map.{keys_of, lookup}
 use Rattle.indexmap.specs.IndexMap.{insert_entry, insert_all}
 use Rattle.tg_graph.specs.declared.rules.Rule.{Rule}
 use Rattle.tg_graph.specs.declared.rules.Rule.TheVariants.{Take, Grant, Create, Remove}
-use Rattle.tg_graph.specs.Names.{IsName}
-use Rattle.tg_graph.specs.Graphs.{Name, same_name, SameGraph}
+use Rattle.tg_names.specs.Names.{IsName, Name, same_name}
+use Rattle.tg_graph.specs.Graphs.{SameGraph}
 use Rattle.tg_graph.specs.GraphOf.{graph_of}
-use Rattle.tg_graph.specs.Rows.{Edges, Entries, IsRow, has_edge, is_known}
+use Rattle.tg_rows.specs.Rows.{Edges, Entries, IsRow, has_edge, is_known}
 
 -- the rows, each of a vertex that is changed or created, and the created vertices in order of creation
 abbrev pub Changes : Type 0

@@ -2,12 +2,12 @@
 use Rattle.std.specs.Prelude.{ℕ, Bool, true, ◌||◌, cond, bytes_eq, slice_get, position, Option, Some, None}
 use Rattle.std.specs.Map.{keys_of}
 use Rattle.std.specs.Option.{option_map, option_and_then}
-use Rattle.tg_graph.specs.declared.right_sets.Right.TheVariants.{T, G}
-use Rattle.tg_graph.specs.declared.right_sets.Rights.{Rights}
+use Rattle.tg_names.specs.declared.right_sets.Right.TheVariants.{T, G}
+use Rattle.tg_names.specs.declared.right_sets.Rights.{Rights}
 use Rattle.tg_graph.specs.declared.ends.Wanted.{Wanted}
 use Rattle.tg_graph.specs.declared.ends.Wanted.TheVariants.{All, Links, With}
-use Rattle.tg_graph.specs.Sets.{member}
-use Rattle.tg_graph.specs.Rows.{Entries, row_number}
+use Rattle.tg_names.specs.Sets.{member}
+use Rattle.tg_rows.specs.Rows.{Entries, row_number}
 
 -- whether an edge with the label is asked for
 abbrev pub is_wanted : Wanted → Rights → Bool

@@ -1,15 +1,8 @@
 -- Protection graphs: a finite set of names, and a set of triples (x, right, y).
 use Rattle.std.specs.Prelude.{◌≡◌, ℕ, Bool, IsTrue, List}
 use Rattle.std.specs.List.{list_any}
-use Rattle.tg_graph.specs.Names.{IsName}
-use Rattle.std.specs.Prelude.{bytes_eq}
-use Rattle.tg_graph.specs.declared.right_sets.Right.{Right}
-
-abbrev pub Name : Type 0
-Name = List ℕ
-
-abbrev pub same_name : Name → Name → Bool
-same_name = bytes_eq
+use Rattle.tg_names.specs.Names.{Name, same_name, IsName}
+use Rattle.tg_names.specs.declared.right_sets.Right.{Right}
 
 -- the vertices in order of insertion, and of each triple whether it is there
 pub record ProtectionGraph : Type 0 where

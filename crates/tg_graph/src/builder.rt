@@ -1,18 +1,17 @@
 //! Building a graph edge by edge.
 ghost use Rattle.std.specs.Prelude.{◌≡◌, ◌<◌, IfOk, OnErr, length};
-ghost use Rattle.tg_graph.specs.Sets.{IsNamed};
+ghost use Rattle.tg_names.specs.Sets.{IsNamed};
 ghost use Rattle.tg_graph.specs.Graphs.{has_vertex};
 ghost use Rattle.tg_graph.specs.GraphOf.{graph_of};
 ghost use Rattle.tg_graph.specs.Additions.{AddsVertex, AddsEdge};
 ghost use Rattle.tg_graph.specs.Waiting.{graph_built};
 
 use crate::labels::Labels;
-use crate::names::Name;
 use crate::protection::{EdgeFault, Graph, VertexFault};
-use crate::right_sets::Rights;
 use crate::waiting;
 use std::alloc::{AllocError, Global};
 use std::marker::Model;
+use tg_names::{Name, Rights};
 
 // The edges out of a vertex wait where there are as many.
 const MANY_EDGES: usize = 16;
@@ -39,7 +38,7 @@ pub struct GraphBuilder {
 
 impl Model for GraphBuilder {
     ghost use Rattle.std.specs.Prelude.{List, ℕ};
-    ghost use Rattle.tg_graph.specs.declared.right_sets.Rights.{Rights};
+    ghost use Rattle.tg_names.specs.declared.right_sets.Rights.{Rights};
     ghost use Rattle.tg_graph.specs.Waiting.{MayWait};
 
     ghost Value = { List (List ℕ × List (List ℕ × Rights)) × List (List Rights) };

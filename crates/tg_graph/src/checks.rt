@@ -2,26 +2,25 @@
 ghost use Rattle.std.specs.Prelude.{◌≡◌, false, MatchOption, bytes_eq};
 ghost use Rattle.std.specs.Map.{lookup};
 ghost use Rattle.std.specs.Option.{option_copied};
-ghost use Rattle.tg_graph.specs.Sets.{IsNamed};
-ghost use Rattle.tg_graph.specs.Rows.{Entries, label_of};
+ghost use Rattle.tg_names.specs.Sets.{IsNamed};
+ghost use Rattle.tg_rows.specs.Rows.{Entries, label_of};
 ghost use Rattle.tg_graph.specs.GraphOf.{IsRowOf};
 ghost use Rattle.tg_graph.specs.Graphs.{has_vertex};
 ghost use Rattle.tg_graph.specs.GraphOf.{graph_of};
 ghost use Rattle.tg_graph.specs.Rules.{refusal_of, verdict, not_held, rights_of};
 ghost use Rattle.tg_graph.specs.Additions.{label_between};
 
-use crate::names::Name;
-use crate::right_sets::{Right, Rights};
-use crate::row::Row;
 use crate::rules::{Refusal, Rule};
 use bitflags::Flags;
+use tg_names::{Name, Right, Rights};
+use tg_rows::Row;
 
 /// What the rules read of a graph: the row of each vertex.
 pub(crate) trait Rows {
     ghost use Rattle.std.specs.Prelude.{◌≡◌, bytes_eq};
     ghost use Rattle.std.specs.Map.{lookup};
     ghost use Rattle.std.specs.Option.{option_copied};
-    ghost use Rattle.tg_graph.specs.Rows.{Entries};
+    ghost use Rattle.tg_rows.specs.Rows.{Entries};
 
     // The vertices with their rows.
     ghost entries: { Self → Entries };

@@ -3,26 +3,22 @@ ghost use Rattle.std.specs.Prelude.{◌≡◌, ◌+◌, ◌^◌, ◌<◌, ◌≤
 ghost use Rattle.std.specs.Map.{keys_of};
 ghost use Rattle.indexmap.specs.IndexMap.{spare, insert_all};
 ghost use Rattle.indexmap.specs.IndexSet.{insert_key, insert_all as insert_all_keys};
-ghost use Rattle.tg_graph.specs.Sets.{IsNamed};
-ghost use Rattle.tg_graph.specs.Rows.{Entries, is_known, IsGraph, Adds, TakesAway};
+ghost use Rattle.tg_names.specs.Sets.{IsNamed};
+ghost use Rattle.tg_rows.specs.Rows.{Entries, is_known, IsGraph, Adds, TakesAway};
 ghost use Rattle.tg_graph.specs.Graphs.{has_vertex};
 ghost use Rattle.tg_graph.specs.GraphOf.{graph_of};
 ghost use Rattle.tg_graph.specs.Rules.{verdict, Applies, rights_of, with_rights, without_rights, with_vertex, refusal_of, after};
 ghost use Rattle.tg_graph.specs.Drafts.{laid_over, Fits, IsDraft, PutsRow, ArePositionsOf, NotesPosition, written_by, FittingIsByNames, ApartFit, ApartCommute};
 
 use crate::checks::{self, Rows};
-use crate::names::Name;
 use crate::protection::Graph;
-use crate::right_sets::{Right, Rights};
-use crate::row::Row;
 use crate::row_maps;
 use crate::rules::{Refusal, Rule, RuleFault};
-use crate::shared_names::{Hint, SharedNames};
-use crate::shared_row::SharedRow;
-use crate::targets::shared_with;
 use indexmap::IndexMap;
 use std::alloc::{AllocError, Global};
 use std::marker::Model;
+use tg_names::{Name, Right, Rights};
+use tg_rows::{Hint, Row, SharedNames, SharedRow, shared_with};
 
 /// Changed rows and new vertices, laid over a graph.
 ///
@@ -37,7 +33,7 @@ pub struct Draft {
 
 impl Model for Draft {
     ghost use Rattle.std.specs.Prelude.{List, ℕ};
-    ghost use Rattle.tg_graph.specs.declared.right_sets.Rights.{Rights};
+    ghost use Rattle.tg_names.specs.declared.right_sets.Rights.{Rights};
 
     ghost Value = { List (List ℕ × List (List ℕ × Rights)) × List (List ℕ) };
 
@@ -328,11 +324,11 @@ pub struct Ready {
 impl Model for Ready {
     ghost use Rattle.std.specs.Prelude.{List, ℕ, ◌≤◌, length};
     ghost use Rattle.indexmap.specs.IndexMap.{spare};
-    ghost use Rattle.tg_graph.specs.declared.right_sets.Rights.{Rights};
+    ghost use Rattle.tg_names.specs.declared.right_sets.Rights.{Rights};
 
     ghost Value = { List (List ℕ × List (List ℕ × Rights)) × (List (List ℕ × List (List ℕ × Rights)) × List (List ℕ)) };
 
-    ghost use Rattle.tg_graph.specs.Rows.{IsGraph};
+    ghost use Rattle.tg_rows.specs.Rows.{IsGraph};
     ghost use Rattle.tg_graph.specs.Drafts.{Fits};
 
     ghost view = { λ r. (r.rows.entries, r.draft) };

@@ -2,12 +2,11 @@
 ghost use Rattle.std.specs.Prelude.{◌≡◌, IfSome, bytes_eq, position};
 ghost use Rattle.std.specs.Map.{keys_of};
 ghost use Rattle.tg_graph.specs.Ends.{is_wanted, end_of};
-ghost use Rattle.tg_graph.specs.Rows.{row_number};
+ghost use Rattle.tg_rows.specs.Rows.{row_number};
 
-use crate::names::Name;
-use crate::open_row::OpenRow;
 use crate::protection::Graph;
-use crate::right_sets::{Right, Rights};
+use tg_names::{Name, Right, Rights};
+use tg_rows::OpenRow;
 
 /// Which edges are asked for.
 #[derive(Clone, Copy, PartialEq, Eq, Debug)]

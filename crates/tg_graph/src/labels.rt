@@ -1,12 +1,12 @@
 //! Labels by position.
 ghost use Rattle.std.specs.Prelude.{◌≡◌, ◌<◌, ℕ, [], IfOk, get_or, length, not, true, false, replicate, slice_set};
 ghost use Rattle.std.specs.List.{AllByRecursion};
-ghost use Rattle.tg_graph.specs.Sets.{IsNamed, is_empty_set, nothing};
+ghost use Rattle.tg_names.specs.Sets.{IsNamed, is_empty_set, nothing};
 
-use crate::right_sets::Rights;
 use bitflags::Flags;
 use std::alloc::{AllocError, Global};
 use std::marker::Model;
+use tg_names::Rights;
 
 /// At the position of each vertex a label, or no rights.
 #[derive(Drop)]
@@ -17,8 +17,8 @@ pub struct Labels {
 impl Model for Labels {
     ghost use Rattle.std.specs.Prelude.{List};
     ghost use Rattle.std.specs.List.{AllByRecursion};
-    ghost use Rattle.tg_graph.specs.declared.right_sets.Rights.{Rights};
-    ghost use Rattle.tg_graph.specs.Sets.{IsNamed};
+    ghost use Rattle.tg_names.specs.declared.right_sets.Rights.{Rights};
+    ghost use Rattle.tg_names.specs.Sets.{IsNamed};
 
     ghost Value = { List Rights };
 

@@ -2,29 +2,25 @@
 ghost use Rattle.std.specs.Prelude.{◌≡◌, ◌<◌, ℕ, List, [], Some, None, true, false, IfOk, IfSome, OnOk, OnErr, bytes_eq, length, slice_get, position, is_some, MatchBool, if◌then◌else◌};
 ghost use Rattle.std.specs.Map.{keys_of, lookup};
 ghost use Rattle.indexmap.specs.IndexMap.{spare};
-ghost use Rattle.tg_graph.specs.Sets.{IsNamed};
-ghost use Rattle.tg_graph.specs.Rows.{is_known, is_target, label_in, IsLabel, IsRow, IsGraph, row_number, Adds, ChangesRow};
+ghost use Rattle.tg_names.specs.Sets.{IsNamed};
+ghost use Rattle.tg_rows.specs.Rows.{is_known, is_target, label_in, IsLabel, IsRow, IsGraph, row_number, Adds, ChangesRow};
 ghost use Rattle.indexmap.specs.Layout.{set_value_at};
 ghost use Rattle.tg_graph.specs.Graphs.{has_vertex, WellFormed};
 ghost use Rattle.tg_graph.specs.GraphOf.{graph_of};
 ghost use Rattle.tg_graph.specs.Drafts.{taken_over};
 ghost use Rattle.tg_graph.specs.Rules.{refusal_of, verdict, Applies, rights_of, with_rights, without_rights, with_vertex, after};
-ghost use Rattle.tg_graph.specs.Sets.{is_empty_set};
+ghost use Rattle.tg_names.specs.Sets.{is_empty_set};
 ghost use Rattle.tg_graph.specs.Additions.{AddsVertex, AddsEdge, label_at, label_between, Runs, AreNamed};
 
 use crate::checks::{self, Rows};
-use crate::names::Name;
-use crate::right_sets::{Right, Rights};
-use crate::row::Row;
 use crate::row_maps;
 use crate::rules::{Refusal, Rule, RuleFault};
-use crate::shared_names::{Hint, SharedNames};
-use crate::shared_row::SharedRow;
-use crate::targets::shared_with;
 use bitflags::Flags;
 use indexmap::IndexMap;
 use std::alloc::{AllocError, Global};
 use std::marker::Model;
+use tg_names::{Name, Right, Rights};
+use tg_rows::{Hint, Row, SharedNames, SharedRow, shared_with};
 
 /// A protection graph: vertices, and for each two of them the rights that the first has over the
 /// second.
@@ -46,11 +42,11 @@ pub struct Graph {
 
 impl Model for Graph {
     ghost use Rattle.std.specs.Prelude.{List, ℕ};
-    ghost use Rattle.tg_graph.specs.declared.right_sets.Rights.{Rights};
+    ghost use Rattle.tg_names.specs.declared.right_sets.Rights.{Rights};
 
     ghost Value = { List (List ℕ × List (List ℕ × Rights)) };
 
-    ghost use Rattle.tg_graph.specs.Rows.{IsGraph};
+    ghost use Rattle.tg_rows.specs.Rows.{IsGraph};
 
     ghost view = { λ g. g.rows.entries };
 

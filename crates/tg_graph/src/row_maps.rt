@@ -4,15 +4,14 @@ ghost use Rattle.indexmap.specs.IndexMap.{spare, insert_entry, insert_all};
 ghost use Rattle.indexmap.specs.Layout.{set_value_at};
 ghost use Rattle.std.specs.List.{IsDistinct};
 ghost use Rattle.std.specs.Map.{keys_of};
-ghost use Rattle.tg_graph.specs.Rows.{is_known};
+ghost use Rattle.tg_rows.specs.Rows.{is_known};
 ghost use Rattle.tg_graph.specs.Drafts.{entries_at};
 ghost use Rattle.tg_graph.specs.TakenRows.{entry_of};
 
-use crate::names::Name;
-use crate::shared_names::SharedNames;
-use crate::shared_row::SharedRow;
 use indexmap::IndexMap;
 use std::alloc::{AllocError, Global};
+use tg_names::Name;
+use tg_rows::{SharedNames, SharedRow};
 
 /// Puts a row in: in the place of the one that its vertex has, or as the last. A new vertex needs
 /// room.

@@ -1,9 +1,8 @@
 //! The four rules, and the reasons to refuse one.
 ghost use Rattle.std.specs.Prelude.{◌≡◌};
 
-use crate::names::Name;
-use crate::right_sets::Rights;
 use std::alloc::AllocError;
+use tg_names::{Name, Rights};
 
 /// A rule that changes a graph. Its vertices may coincide.
 ///

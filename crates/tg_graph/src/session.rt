@@ -1,7 +1,6 @@
 //! What a session does in one step, and what it is told.
-use crate::names::Name;
-use crate::right_sets::Right;
 use crate::rules::{Refusal, Rule};
+use tg_names::{Name, Right};
 
 /// One step of a session: a rule to carry out, or a question to its graph.
 #[derive(Clone, Copy, PartialEq, Eq, Debug)]

@@ -1,20 +1,18 @@
 //! Labels that wait for the rows of vertices.
 ghost use Rattle.std.specs.Prelude.{◌≡◌, ◌<◌, ◌≤◌, nat_lt, ℕ, List, [], Some, IfOk, IfSome, OnOk, OnErr, get_or, length, slice_get};
 ghost use Rattle.std.specs.Map.{keys_of};
-ghost use Rattle.tg_graph.specs.declared.right_sets.Rights.{Rights};
-ghost use Rattle.tg_graph.specs.Sets.{IsNamed, nothing};
-ghost use Rattle.tg_graph.specs.Rows.{Adds, IsLabel, IsRow, label_in, row_number};
+ghost use Rattle.tg_names.specs.declared.right_sets.Rights.{Rights};
+ghost use Rattle.tg_names.specs.Sets.{IsNamed, nothing};
+ghost use Rattle.tg_rows.specs.Rows.{Adds, IsLabel, IsRow, label_in, row_number};
 ghost use Rattle.tg_graph.specs.Additions.{AddsEdge};
 ghost use Rattle.tg_graph.specs.Waiting.{graph_built, label_for, MayWait, IsMoving, HasMoved};
 
 use crate::labels::Labels;
-use crate::names::Name;
 use crate::protection::{EdgeFault, Graph};
-use crate::right_sets::Rights;
-use crate::row::Row;
-use crate::shared_names::Hint;
 use bitflags::Flags;
 use std::alloc::{AllocError, Global};
+use tg_names::{Name, Rights};
+use tg_rows::{Hint, Row};
 
 // Adds an edge to the row: behind the others, if it belongs there.
 #[inline(always)]

@@ -7,9 +7,9 @@ use Rattle.std.proofs.lemmas.List.Folds.{list_any-append}
 use Rattle.std.proofs.lemmas.Bool.{or_left, or_right, or_parts}
 use Rattle.std.proofs.Math.Bool.{or-false, and-true}
 use Rattle.std.proofs.lemmas.Bool.Decides.{nat_tests}
-use Rattle.tg_graph.specs.declared.right_sets.Right.{Right}
-use Rattle.tg_graph.specs.declared.right_sets.Right.TheVariants.{T, G}
-use Rattle.tg_graph.specs.declared.right_sets.Rights.{Rights}
+use Rattle.tg_names.specs.declared.right_sets.Right.{Right}
+use Rattle.tg_names.specs.declared.right_sets.Right.TheVariants.{T, G}
+use Rattle.tg_names.specs.declared.right_sets.Rights.{Rights}
 use Rattle.tg_graph.specs.declared.rules.Rule.{Rule}
 use Rattle.tg_graph.specs.declared.rules.Rule.TheVariants.{Take, Grant, Create, Remove}
 use Rattle.tg_graph.specs.declared.rules.Refusal.{Refusal}
@@ -18,11 +18,12 @@ use Rattle.tg_graph.specs.declared.session.Step.{Step}
 use Rattle.tg_graph.specs.declared.session.Step.TheVariants.{Do, Holds, Share}
 use Rattle.tg_graph.specs.declared.session.Reply.{Reply}
 use Rattle.tg_graph.specs.declared.session.Reply.TheVariants.{Done, Yes, No, Refused}
-use Rattle.tg_graph.specs.Sets.{member, rights_where, is_empty_set}
-use Rattle.tg_graph.specs.Graphs.{Name, ProtectionGraph, SameGraph, has_vertex, same_name}
+use Rattle.tg_names.specs.Sets.{member, rights_where, is_empty_set}
+use Rattle.tg_names.specs.Names.{Name, same_name}
+use Rattle.tg_graph.specs.Graphs.{ProtectionGraph, SameGraph, has_vertex}
 use Rattle.tg_graph.specs.Rules.{refusal_of, after, unknown, refused_if, not_held, with_edge, without_edge}
 use Rattle.tg_graph.specs.RuleLists.{AllAccepted, after_all, CanShare}
-use Rattle.tg_graph.proofs.Rows.{same_bytes}
+use Rattle.tg_rows.proofs.Rows.{same_bytes}
 use Rattle.tg_graph.proofs.Same.{refusal-same, after-same}
 use Rattle.tg_analysis.proofs.NameTests.{same_refl}
 use Rattle.tg_graph.specs.Limits.{most_vertices}

@@ -8,18 +8,19 @@ use Rattle.std.proofs.lemmas.Bool.{or_left, or_right}
 use Rattle.std.proofs.lemmas.List.{append_cancel_left}
 use Rattle.std.proofs.lemmas.List.Folds.{list_any-append}
 use Rattle.indexmap.specs.IndexSet.{insert_all, insert_key}
-use Rattle.tg_graph.specs.declared.right_sets.Right.{Right}
+use Rattle.tg_names.specs.declared.right_sets.Right.{Right}
 use Rattle.tg_graph.specs.declared.rules.Rule.{Rule}
 use Rattle.tg_graph.specs.declared.rules.Rule.TheVariants.{Take, Grant, Create, Remove}
 use Rattle.tg_graph.specs.declared.session.Step.{Step}
 use Rattle.tg_graph.specs.declared.session.Step.TheVariants.{Do, Holds, Share}
 use Rattle.tg_graph.specs.declared.rules.Refusal.{Refusal}
 use Rattle.tg_graph.specs.Rules.{refusal_of}
-use Rattle.tg_graph.specs.Graphs.{Name, ProtectionGraph, same_name}
-use Rattle.tg_graph.specs.Rows.{Entries, is_known}
+use Rattle.tg_names.specs.Names.{Name, same_name}
+use Rattle.tg_graph.specs.Graphs.{ProtectionGraph}
+use Rattle.tg_rows.specs.Rows.{Entries, is_known}
 use Rattle.tg_graph.specs.GraphOf.{graph_of}
 use Rattle.tg_graph.specs.Drafts.{Changes, laid_over, Fits, AreApart, written_by}
-use Rattle.tg_graph.proofs.Rows.{same_bytes}
+use Rattle.tg_rows.proofs.Rows.{same_bytes}
 use Rattle.tg_analysis.proofs.NameTests.{same_refl}
 use Rattle.tg_graph.proofs.DraftLaws.{apart_fit, holds-drafted, holds-left}
 use Rattle.tg_store.specs.declared.answers.Answered.{Answered}

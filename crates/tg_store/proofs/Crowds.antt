@@ -12,7 +12,8 @@ use Rattle.tg_graph.specs.declared.rules.Refusal.{Refusal}
 use Rattle.tg_graph.specs.declared.rules.Refusal.TheVariants.{Unknown, Taken}
 use Rattle.tg_graph.specs.declared.session.Step.{Step}
 use Rattle.tg_graph.specs.declared.session.Step.TheVariants.{Do, Holds, Share}
-use Rattle.tg_graph.specs.Graphs.{Name, ProtectionGraph, has_vertex, same_name}
+use Rattle.tg_names.specs.Names.{Name, same_name}
+use Rattle.tg_graph.specs.Graphs.{ProtectionGraph, has_vertex}
 use Rattle.tg_graph.specs.Rules.{refusal_of, refused_if}
 use Rattle.tg_graph.specs.Limits.{most_vertices}
 use Rattle.tg_store.specs.declared.answers.Answered.{Answered}

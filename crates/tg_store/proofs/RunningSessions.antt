@@ -4,7 +4,7 @@ use Rattle.std.specs.Prelude.{slice_get}
 use Rattle.std.proofs.lemmas.Bool.{cases_lt}
 use Rattle.std.proofs.lemmas.List.{length-append}
 use Rattle.std.proofs.lemmas.Option.{slice_get_within}
-use Rattle.tg_graph.specs.Rows.{Entries}
+use Rattle.tg_rows.specs.Rows.{Entries}
 use Rattle.tg_graph.specs.GraphOf.{graph_of}
 use Rattle.tg_journal.specs.declared.answers.Put.TheVariants as put
 use Rattle.tg_journal.specs.Lists.{Begins}

@@ -10,10 +10,11 @@ use Rattle.std.proofs.lemmas.List.Folds.{list_any-append}
 use Rattle.std.proofs.lemmas.Option.{none-some, same_Some, slice_get_within, slice_get-map, slice_get-get_or}
 use Rattle.indexmap.specs.IndexSet.{insert_key, insert_all as insert_all_keys}
 use Rattle.indexmap.proofs.SetLemmas.{keys_insert_all}
-use Rattle.tg_graph.specs.declared.right_sets.Right.{Right}
-use Rattle.tg_graph.specs.Sets.{member, nothing}
-use Rattle.tg_graph.specs.Graphs.{Name, ProtectionGraph, same_name}
-use Rattle.tg_graph.specs.Rows.{Edges, Entries, is_known, label_in, IsGraph}
+use Rattle.tg_names.specs.declared.right_sets.Right.{Right}
+use Rattle.tg_names.specs.Sets.{member, nothing}
+use Rattle.tg_names.specs.Names.{Name, same_name}
+use Rattle.tg_graph.specs.Graphs.{ProtectionGraph}
+use Rattle.tg_rows.specs.Rows.{Edges, Entries, is_known, label_in, IsGraph}
 use Rattle.tg_graph.specs.GraphOf.{graph_of}
 use Rattle.tg_graph.specs.Drafts.{Changes, laid_over, IsDraft, entries_at, taken_over, ArePositionsOf}
 use Rattle.tg_graph.proofs.DraftLaws.{holds-left}

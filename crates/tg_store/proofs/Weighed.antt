@@ -4,8 +4,9 @@ use Rattle.std.specs.Prelude.{find, count_by, if◌then◌else◌}
 use Rattle.std.specs.List.{IsDistinct, list_any}
 use Rattle.std.proofs.Math.Seq.{drop-cons}
 use Rattle.std.proofs.lemmas.List.{length-append}
-use Rattle.tg_graph.specs.Graphs.{Name, ProtectionGraph, same_name}
-use Rattle.tg_graph.specs.Rows.{Entries, is_known}
+use Rattle.tg_names.specs.Names.{Name, same_name}
+use Rattle.tg_graph.specs.Graphs.{ProtectionGraph}
+use Rattle.tg_rows.specs.Rows.{Entries, is_known}
 use Rattle.tg_graph.specs.GraphOf.{graph_of}
 use Rattle.tg_graph.specs.Drafts.{Changes, Fits}
 use Rattle.tg_graph.proofs.Drafts.{fits-none}

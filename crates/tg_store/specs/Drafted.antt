@@ -1,8 +1,9 @@
 -- What a draft over a graph stands for, and when it is that of some steps.
 use Rattle.std.specs.Prelude.{◌≡◌, ◌||◌, List}
 use Rattle.std.specs.List.{list_any}
-use Rattle.tg_graph.specs.Graphs.{Name, ProtectionGraph, same_name}
-use Rattle.tg_graph.specs.Rows.{Entries, is_known}
+use Rattle.tg_names.specs.Names.{Name, same_name}
+use Rattle.tg_graph.specs.Graphs.{ProtectionGraph}
+use Rattle.tg_rows.specs.Rows.{Entries, is_known}
 use Rattle.tg_graph.specs.GraphOf.{graph_of}
 use Rattle.tg_graph.specs.Drafts.{Changes, laid_over, Fits, IsDraft}
 use Rattle.tg_store.specs.declared.answers.Answered.{Answered}

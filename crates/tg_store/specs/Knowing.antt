@@ -1,6 +1,6 @@
 -- What a session knows of the graph that it asks.
 use Rattle.std.specs.Prelude.{◌≡◌, [], Bool}
-use Rattle.tg_graph.specs.Rows.{Entries}
+use Rattle.tg_rows.specs.Rows.{Entries}
 use Rattle.tg_graph.specs.Drafts.{Changes, laid_over}
 use Rattle.tg_analysis.specs.ByTarget.{IsIndexOf, has_found, unasked}
 use Rattle.tg_store.specs.declared.knowing.Known.{Known}

@@ -1,7 +1,7 @@
 -- What the calls of a running store answer, and what each answer says of the seat before and after it.
 use Rattle.std.specs.Prelude.{◌≡◌, ℕ, ◌+◌, ◌≤◌, ◌<◌, List, [], ◌∷◌, ◌++◌, length, max, slice_get, Some, None, ⊤}
-use Rattle.tg_graph.specs.Rows.{Entries}
-use Rattle.tg_graph.specs.Graphs.{Name}
+use Rattle.tg_rows.specs.Rows.{Entries}
+use Rattle.tg_names.specs.Names.{Name}
 use Rattle.tg_graph.specs.GraphOf.{graph_of}
 use Rattle.tg_journal.specs.declared.answers.JournalFault.{JournalFault}
 use Rattle.tg_journal.specs.declared.answers.JournalFault.TheVariants as journal

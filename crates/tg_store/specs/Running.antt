@@ -1,6 +1,6 @@
 -- A running store, its seats and their sessions as contracts see them, and what is true of each.
 use Rattle.std.specs.Prelude.{◌≡◌, ℕ, ◌≤◌, List, length, take, slice_get, Some}
-use Rattle.tg_graph.specs.Rows.{Entries}
+use Rattle.tg_rows.specs.Rows.{Entries}
 use Rattle.tg_graph.specs.Graphs.{ProtectionGraph}
 use Rattle.tg_graph.specs.GraphOf.{graph_of}
 use Rattle.tg_journal.specs.Lists.{Begins}

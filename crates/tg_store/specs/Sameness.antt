@@ -3,8 +3,8 @@ use Rattle.std.specs.Prelude.{◌≡◌, List, [], ◌∷◌, Bool, true, false,
 use Rattle.std.proofs.Common.{rules, nat_eq, subst}
 use Rattle.std.proofs.lemmas.Bool.{eq-eqb, eqb-true}
 use Rattle.std.specs.Cmp.Lexicographic.{pointwise}
-use Rattle.tg_graph.specs.contracts.right_sets.RightPartialEq.TheImpl as right
-use Rattle.tg_graph.specs.contracts.right_sets.RightsPartialEq.TheImpl as rights
+use Rattle.tg_names.specs.contracts.right_sets.RightPartialEq.TheImpl as right
+use Rattle.tg_names.specs.contracts.right_sets.RightsPartialEq.TheImpl as rights
 use Rattle.tg_graph.specs.contracts.rules.RulePartialEq.TheImpl as rule
 use Rattle.tg_graph.specs.contracts.rules.RefusalPartialEq.TheImpl as refusal
 use Rattle.tg_graph.specs.contracts.session.StepPartialEq.TheImpl as step

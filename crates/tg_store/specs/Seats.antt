@@ -1,7 +1,7 @@
 -- The fields of a seat, and what is true of them.
 use Rattle.std.specs.Prelude.{slice_get, ◌≡◌, ◌≤◌, ◌+◌, ℕ, List, All, IfSome, take, length, Option, None, Some}
 use Rattle.std.specs.Option.{option_map}
-use Rattle.tg_graph.specs.Rows.{Entries}
+use Rattle.tg_rows.specs.Rows.{Entries}
 use Rattle.tg_graph.specs.Graphs.{ProtectionGraph}
 use Rattle.tg_graph.specs.GraphOf.{graph_of}
 use Rattle.tg_store.specs.declared.seats.OpenSession.{OpenSession}

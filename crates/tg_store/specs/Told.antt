@@ -5,7 +5,7 @@ use Rattle.tg_graph.specs.declared.session.Step.{Step}
 use Rattle.tg_graph.specs.declared.session.Step.TheVariants.{Do, Holds, Share}
 use Rattle.tg_graph.specs.declared.session.Reply.{Reply}
 use Rattle.tg_graph.specs.declared.session.Reply.TheVariants.{Done, Yes, No, Refused}
-use Rattle.tg_graph.specs.Graphs.{Name}
+use Rattle.tg_names.specs.Names.{Name}
 use Rattle.tg_graph.specs.Drafts.{written_by}
 use Rattle.tg_store.specs.declared.answers.Answered.{Answered}
 

@@ -3,8 +3,9 @@ use Rattle.std.specs.Prelude.{◌≡◌, ℕ, ◌+◌, ◌<◌, ◌≤◌, false
 use Rattle.std.specs.List.{list_any, filter_map}
 use Rattle.std.specs.Vec.{vec_capacity}
 use Rattle.indexmap.specs.IndexSet.{insert_all as insert_all_keys}
-use Rattle.tg_graph.specs.declared.right_sets.Right.{Right}
-use Rattle.tg_graph.specs.Graphs.{Name, ProtectionGraph, same_name}
+use Rattle.tg_names.specs.declared.right_sets.Right.{Right}
+use Rattle.tg_names.specs.Names.{Name, same_name}
+use Rattle.tg_graph.specs.Graphs.{ProtectionGraph}
 use Rattle.tg_graph.specs.GraphOf.{graph_of}
 use Rattle.tg_store.specs.declared.records.Record.{Record}
 use Rattle.tg_store.specs.declared.trails.Trail.{Trail}

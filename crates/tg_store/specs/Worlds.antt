@@ -2,7 +2,7 @@
 use Rattle.std.specs.Prelude.{Bool, true, false, ◌≡◌, ℕ, ◌+◌, ◌-◌, ◌<◌, ◌≤◌, ◌==◌, All, IfSome, if◌then◌else◌, List, [], ◌∷◌, ◌++◌, length, take, slice_get, slice_set, Option, None, Some, MatchOption, Result, Ok, Err, ⊤, ◌&&◌, nat_lt, nat_le, replicate}
 use Rattle.tg_graph.specs.declared.session.Step.{Step}
 use Rattle.tg_graph.specs.Graphs.{ProtectionGraph}
-use Rattle.tg_graph.specs.Rows.{Entries}
+use Rattle.tg_rows.specs.Rows.{Entries}
 use Rattle.tg_graph.specs.GraphOf.{graph_of}
 use Rattle.tg_graph.specs.Limits.{most_vertices, most_cells, most_seats}
 use Rattle.tg_store.specs.declared.answers.Answered.{Answered}

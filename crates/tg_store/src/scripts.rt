@@ -1,7 +1,7 @@
 //! What seats do in the tests, and what they are told, as rows of tables.
 ghost use Rattle.std.specs.Prelude.{IfSome};
 ghost use Rattle.tg_graph.specs.Rules.{rights_of};
-ghost use Rattle.tg_graph.specs.Sets.{IsNamed};
+ghost use Rattle.tg_names.specs.Sets.{IsNamed};
 ghost use Rattle.tg_store.specs.Acts.{IsStageableAct};
 ghost use Rattle.tg_store.specs.StepWords.{IsNamedStep};
 ghost use Rattle.tg_store.specs.Worlds.{IsStageable};

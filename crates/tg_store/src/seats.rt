@@ -3,7 +3,7 @@ ghost use Rattle.std.specs.Prelude.{◌≡◌, ◌≢◌, ◌<◌, ◌≤◌, �
 ghost use Rattle.std.specs.Option.{option_map};
 ghost use Rattle.std.specs.Vec.{vec_capacity};
 ghost use Rattle.tg_graph.specs.Graphs.{ProtectionGraph};
-ghost use Rattle.tg_graph.specs.Rows.{Entries};
+ghost use Rattle.tg_rows.specs.Rows.{Entries};
 ghost use Rattle.tg_graph.specs.GraphOf.{graph_of};
 ghost use Rattle.tg_graph.specs.Drafts.{ArePositionsOf};
 ghost use Rattle.tg_graph.specs.Limits.{most_cells};

@@ -7,15 +7,14 @@ use Rattle.std.specs.Option.{option_map, option_map_or}
 use Rattle.std.proofs.lemmas.Bool.{ne_eqb}
 use Rattle.std.proofs.lemmas.Bool.Decides.{nat_tests}
 use Rattle.std.proofs.Math.Dec.{eqb-suc-suc}
-use Rattle.tg_graph.specs.declared.right_sets.Right.{Right}
-use Rattle.tg_graph.specs.declared.right_sets.Rights.{Rights}
+use Rattle.tg_names.specs.declared.right_sets.Right.{Right}
+use Rattle.tg_names.specs.declared.right_sets.Rights.{Rights}
 use Rattle.tg_graph.specs.declared.rules.Rule.TheVariants.{Take, Grant, Create, Remove}
 use Rattle.tg_graph.specs.declared.session.Step.TheVariants.{Do, Holds, Share}
 use Rattle.tg_graph.specs.declared.session.Act.{Act}
 use Rattle.tg_graph.specs.declared.session.Act.TheVariants.{Begin, Stage, Commit, Abort}
-use Rattle.tg_graph.specs.Names.{name_of}
-use Rattle.tg_graph.specs.Letters.{set_of_letters}
-use Rattle.tg_graph.specs.Graphs.{Name}
+use Rattle.tg_names.specs.Names.{name_of, Name}
+use Rattle.tg_names.specs.Letters.{set_of_letters}
 use Rattle.tg_text.specs.declared.faults.TextKind.{TextKind}
 use Rattle.tg_text.specs.declared.faults.TextKind.TheVariants.{BadWord, WordCount, BadNumber, BadName, BadRights, TooMany}
 use Rattle.tg_text.specs.Words.{Word, is_word, one_word, value_or, number_of, at_most, number_up_to, right_of, header_number}

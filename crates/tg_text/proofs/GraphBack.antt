@@ -12,15 +12,15 @@ use Rattle.std.proofs.Math.Bool.{and-false, or-false, or_assoc}
 use Rattle.std.proofs.lemmas.List.{append-nil, append_assoc, length-append}
 use Rattle.std.proofs.lemmas.List.Folds.{list_any-append}
 use Rattle.std.proofs.lemmas.Slice.Eq.{bytes_eq-Decides}
-use Rattle.tg_graph.specs.declared.right_sets.Right.{Right}
-use Rattle.tg_graph.specs.declared.right_sets.Rights.{Rights}
-use Rattle.tg_graph.specs.Graphs.{Name, ProtectionGraph, WellFormed, has_vertex}
-use Rattle.tg_graph.specs.Names.{IsName}
-use Rattle.tg_graph.specs.Sets.{IsNamed, member, rights_where, is_empty_set}
+use Rattle.tg_names.specs.declared.right_sets.Right.{Right}
+use Rattle.tg_names.specs.declared.right_sets.Rights.{Rights}
+use Rattle.tg_names.specs.Names.{Name, IsName}
+use Rattle.tg_graph.specs.Graphs.{ProtectionGraph, WellFormed, has_vertex}
+use Rattle.tg_names.specs.Sets.{IsNamed, member, rights_where, is_empty_set}
 use Rattle.tg_graph.specs.Rules.{with_vertex, with_rights, with_edge}
 use Rattle.tg_graph.specs.Additions.{label_between}
 use Rattle.tg_graph.proofs.Graphs.{with_edge-nothing}
-use Rattle.tg_graph.proofs.Sets.{member-where, named-where}
+use Rattle.tg_names.proofs.Sets.{member-where, named-where}
 use Rattle.tg_text.specs.declared.faults.TextKind.{TextKind}
 use Rattle.tg_text.specs.declared.versions.Version.{Version}
 use Rattle.tg_text.specs.declared.versions.Version.TheVariants.{One, Two}

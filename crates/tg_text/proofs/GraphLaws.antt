@@ -3,10 +3,11 @@ use Rattle.std.proofs.Common.{◌≡◌, refl, sym, ◌∙◌, ap, subst, inl, i
 use Rattle.std.specs.Prelude.{codes, decimal}
 use Rattle.std.proofs.lemmas.Bool.{leb-false, lt-leb, not-false, and_parts, and_from, not_from_true, or_parts}
 use Rattle.std.proofs.lemmas.Fmt.{decimal_digit}
-use Rattle.tg_graph.specs.declared.right_sets.Rights.{Rights}
-use Rattle.tg_graph.specs.Sets.{is_empty_set}
-use Rattle.tg_graph.specs.Letters.{set_of_letters}
-use Rattle.tg_graph.specs.Graphs.{Name, ProtectionGraph, has_vertex}
+use Rattle.tg_names.specs.declared.right_sets.Rights.{Rights}
+use Rattle.tg_names.specs.Sets.{is_empty_set}
+use Rattle.tg_names.specs.Letters.{set_of_letters}
+use Rattle.tg_names.specs.Names.{Name}
+use Rattle.tg_graph.specs.Graphs.{ProtectionGraph, has_vertex}
 use Rattle.tg_graph.specs.Rules.{with_vertex, with_rights}
 use Rattle.tg_graph.specs.Additions.{label_between}
 use Rattle.tg_text.specs.declared.faults.TextKind.{TextKind}

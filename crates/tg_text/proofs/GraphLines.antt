@@ -6,14 +6,14 @@ use Rattle.std.specs.List.{flat_map, slice_get, position}
 use Rattle.std.specs.Map.{keys_of, lookup}
 use Rattle.std.proofs.lemmas.Map.Entries.{lookup_from_place}
 use Rattle.std.proofs.lemmas.Map.Made.{is_some-lookup}
-use Rattle.tg_graph.specs.declared.right_sets.Rights.{Rights}
-use Rattle.tg_graph.specs.Graphs.{Name}
+use Rattle.tg_names.specs.declared.right_sets.Rights.{Rights}
+use Rattle.tg_names.specs.Names.{Name}
 use Rattle.tg_graph.specs.GraphOf.{graph_of}
 use Rattle.tg_graph.specs.Additions.{label_between}
-use Rattle.tg_graph.specs.Sets.{member, nothing, IsNamed}
-use Rattle.tg_graph.specs.Rows.{Edges, Entries, IsGraph, IsLabel, IsRow, label_in, label_of, is_target, row_number}
-use Rattle.tg_graph.proofs.Sets.{same_set, member-where, named-where}
-use Rattle.tg_graph.proofs.Places.{distinct_from_up}
+use Rattle.tg_names.specs.Sets.{member, nothing, IsNamed}
+use Rattle.tg_rows.specs.Rows.{Edges, Entries, IsGraph, IsLabel, IsRow, label_in, label_of, is_target, row_number}
+use Rattle.tg_names.proofs.Sets.{same_set, member-where, named-where}
+use Rattle.tg_rows.proofs.Places.{distinct_from_up}
 use Rattle.tg_text.specs.Canonical.{edge_line, in_name_order, row_text}
 use Rattle.tg_text.proofs.NameOrder.{among, among-in_order, strict-in_order}
 use Rattle.tg_text.proofs.RowLines.{edge_of, row-lines, row-found, FoundAt}

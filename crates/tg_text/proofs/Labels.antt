@@ -10,13 +10,13 @@ use Rattle.std.proofs.lemmas.Option.{slice_get_within, get_or_from_slice_get}
 use Rattle.std.proofs.lemmas.Slice.Eq.{bytes_eq-Decides}
 use Rattle.std.proofs.lemmas.Map.Entries.{lookup_from_place}
 use Rattle.std.proofs.lemmas.Map.Made.{is_some-lookup}
-use Rattle.tg_graph.specs.declared.right_sets.Rights.{Rights}
-use Rattle.tg_graph.specs.Graphs.{Name}
+use Rattle.tg_names.specs.declared.right_sets.Rights.{Rights}
+use Rattle.tg_names.specs.Names.{Name}
 use Rattle.tg_graph.specs.GraphOf.{graph_of}
 use Rattle.tg_graph.specs.Additions.{label_between}
-use Rattle.tg_graph.specs.Sets.{nothing}
-use Rattle.tg_graph.specs.Rows.{Edges, Entries, IsGraph, label_in, label_of, is_target, row_number}
-use Rattle.tg_graph.proofs.Places.{distinct_from_up}
+use Rattle.tg_names.specs.Sets.{nothing}
+use Rattle.tg_rows.specs.Rows.{Edges, Entries, IsGraph, label_in, label_of, is_target, row_number}
+use Rattle.tg_rows.proofs.Places.{distinct_from_up}
 use Rattle.tg_text.specs.declared.versions.Version.{Version}
 use Rattle.tg_text.specs.declared.versions.Version.TheVariants.{One, Two}
 use Rattle.tg_text.specs.Versions.{has_letters}

@@ -6,13 +6,13 @@ use Rattle.std.proofs.lemmas.Bool.Decides.{nat_tests}
 use Rattle.std.proofs.lemmas.List.{length-append}
 use Rattle.std.proofs.lemmas.Option.{none-some}
 use Rattle.std.proofs.lemmas.Slice.Eq.{bytes_eq-Decides}
-use Rattle.tg_graph.specs.declared.right_sets.Right.{Right}
-use Rattle.tg_graph.specs.declared.right_sets.Rights.{Rights}
-use Rattle.tg_graph.specs.Graphs.{Name, ProtectionGraph}
-use Rattle.tg_graph.specs.Names.{IsName}
-use Rattle.tg_graph.specs.Sets.{member, nothing, right_of_letter}
-use Rattle.tg_graph.specs.Letters.{set_of_letters, with_letters, with_new_right, with_right}
-use Rattle.tg_graph.proofs.Letters.{none-letters}
+use Rattle.tg_names.specs.declared.right_sets.Right.{Right}
+use Rattle.tg_names.specs.declared.right_sets.Rights.{Rights}
+use Rattle.tg_names.specs.Names.{Name, IsName}
+use Rattle.tg_graph.specs.Graphs.{ProtectionGraph}
+use Rattle.tg_names.specs.Sets.{member, nothing, right_of_letter}
+use Rattle.tg_names.specs.Letters.{set_of_letters, with_letters, with_new_right, with_right}
+use Rattle.tg_names.proofs.Letters.{none-letters}
 use Rattle.tg_text.specs.declared.faults.TextKind.TheVariants.{BadRights}
 use Rattle.tg_text.specs.declared.versions.Version.{Version}
 use Rattle.tg_text.specs.Canonical.{line_of}

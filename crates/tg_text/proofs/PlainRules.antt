@@ -4,7 +4,7 @@ use Rattle.std.specs.List.{AllByRecursion}
 use Rattle.std.proofs.lemmas.List.{length-append}
 use Rattle.tg_graph.specs.declared.rules.Rule.{Rule}
 use Rattle.tg_graph.specs.declared.rules.Rule.TheVariants.{Take, Grant, Create, Remove}
-use Rattle.tg_graph.specs.Letters.{set_of_letters}
+use Rattle.tg_names.specs.Letters.{set_of_letters}
 use Rattle.tg_graph.specs.Rules.{rights_of}
 use Rattle.tg_graph.specs.RuleWords.{IsRule}
 use Rattle.tg_text.specs.declared.faults.TextKind.TheVariants.{BadRights, TooMany}

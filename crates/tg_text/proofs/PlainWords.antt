@@ -4,13 +4,12 @@ use Rattle.std.specs.List.{AllByRecursion, list_all}
 use Rattle.std.proofs.lemmas.List.{append_assoc, append-nil}
 use Rattle.std.proofs.lemmas.Bool.{and_parts, not-true}
 use Rattle.std.proofs.lemmas.Bool.Decides.{nat_tests}
-use Rattle.tg_graph.specs.declared.right_sets.Right.{Right}
-use Rattle.tg_graph.specs.declared.right_sets.Right.TheVariants.{T, G, R, W, E, A, D}
-use Rattle.tg_graph.specs.declared.right_sets.Rights.{Rights}
-use Rattle.tg_graph.specs.Graphs.{Name}
-use Rattle.tg_graph.specs.Names.{IsName, first_bad, fits_at}
-use Rattle.tg_graph.specs.Sets.{member}
-use Rattle.tg_graph.specs.Letters.{letters_among, letters_of, letter_of, all_rights}
+use Rattle.tg_names.specs.declared.right_sets.Right.{Right}
+use Rattle.tg_names.specs.declared.right_sets.Right.TheVariants.{T, G, R, W, E, A, D}
+use Rattle.tg_names.specs.declared.right_sets.Rights.{Rights}
+use Rattle.tg_names.specs.Names.{Name, IsName, first_bad, fits_at}
+use Rattle.tg_names.specs.Sets.{member}
+use Rattle.tg_names.specs.Letters.{letters_among, letters_of, letter_of, all_rights}
 use Rattle.tg_text.specs.declared.faults.TextKind.{TextKind}
 use Rattle.tg_text.specs.declared.faults.TextKind.TheVariants.{LineTooLong}
 use Rattle.tg_text.specs.Lines.{lines_of, words_of, is_blank, begins_with_word, is_skipped}

@@ -6,10 +6,10 @@ use Rattle.std.specs.Option.{option_map_or}
 use Rattle.std.specs.Result.{result_ok}
 use Rattle.std.proofs.lemmas.Bool.{ne_eqb}
 use Rattle.std.proofs.lemmas.Bool.Decides.{nat_tests}
-use Rattle.tg_graph.specs.declared.right_sets.Rights.{Rights}
-use Rattle.tg_graph.specs.Names.{name_of}
-use Rattle.tg_graph.specs.Sets.{is_empty_set}
-use Rattle.tg_graph.specs.Letters.{set_of_letters}
+use Rattle.tg_names.specs.declared.right_sets.Rights.{Rights}
+use Rattle.tg_names.specs.Names.{name_of}
+use Rattle.tg_names.specs.Sets.{is_empty_set}
+use Rattle.tg_names.specs.Letters.{set_of_letters}
 use Rattle.tg_graph.specs.Graphs.{ProtectionGraph}
 use Rattle.tg_text.specs.declared.versions.Version.TheVariants.{Two}
 use Rattle.tg_text.specs.declared.faults.TextKind.{TextKind}

@@ -2,12 +2,12 @@
 use Rattle.std.proofs.Common.{◌≡◌, refl, sym, ap, subst, inl, inr, ◌⊎◌, ℕ, zero, suc, ◌+◌, Bool, true, false, List, [], ◌∷◌, ◌++◌, take, Option, Some, Ok}
 use Rattle.std.specs.Prelude.{slice_get, MatchOption}
 use Rattle.std.specs.Bool.{MatchBool}
-use Rattle.tg_graph.specs.declared.right_sets.Rights.{Rights}
-use Rattle.tg_graph.specs.Sets.{IsNamed}
-use Rattle.tg_graph.specs.Letters.{set_of_letters}
-use Rattle.tg_graph.specs.RightsWords.{IsRightsWord, IsSetOf}
+use Rattle.tg_names.specs.declared.right_sets.Rights.{Rights}
+use Rattle.tg_names.specs.Sets.{IsNamed}
+use Rattle.tg_names.specs.Letters.{set_of_letters}
+use Rattle.tg_names.specs.RightsWords.{IsRightsWord, IsSetOf}
 use Rattle.tg_graph.specs.Graphs.{ProtectionGraph}
-use Rattle.tg_graph.proofs.RightsWords.{rights_words_exactly}
+use Rattle.tg_names.proofs.RightsWords.{rights_words_exactly}
 use Rattle.tg_text.specs.declared.policy_text.Claim.{Claim}
 use Rattle.tg_text.specs.declared.policy_text.Claim.TheVariants as claim
 use Rattle.tg_text.specs.Lines.{lines_of, words_of, is_skipped}

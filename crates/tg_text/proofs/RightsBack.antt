@@ -5,9 +5,9 @@ use Rattle.std.specs.Option.{option_map_or}
 use Rattle.std.proofs.lemmas.Bool.Decides.{Decides-eqb}
 use Rattle.std.proofs.lemmas.List.Folds.{list_all_at}
 use Rattle.std.proofs.lemmas.List.FromFn.{get_or-range_with_len, length-range_with_len}
-use Rattle.tg_graph.specs.declared.right_sets.Rights.{Rights}
-use Rattle.tg_graph.specs.Sets.{IsNamed}
-use Rattle.tg_graph.specs.Letters.{set_of_letters}
+use Rattle.tg_names.specs.declared.right_sets.Rights.{Rights}
+use Rattle.tg_names.specs.Sets.{IsNamed}
+use Rattle.tg_names.specs.Letters.{set_of_letters}
 use Rattle.tg_text.specs.Spelling.{rights_text}
 
 abbrev set_with : ℕ → Rights

@@ -11,11 +11,11 @@ use Rattle.std.specs.List.Sorted.{IsStrictlySortedBy}
 use Rattle.std.specs.Map.{keys_of, lookup}
 use Rattle.std.proofs.lemmas.Iterator.Adapters.{position_from-zero}
 use Rattle.std.proofs.lemmas.Map.Lookups.{exact_bytes}
-use Rattle.tg_graph.specs.declared.right_sets.Rights.{Rights}
-use Rattle.tg_graph.specs.Graphs.{Name}
-use Rattle.tg_graph.proofs.Rows.{same_bytes}
-use Rattle.tg_graph.specs.Sets.{nothing}
-use Rattle.tg_graph.specs.Rows.{Edges, Entries, IsLabel, label_in, row_number}
+use Rattle.tg_names.specs.declared.right_sets.Rights.{Rights}
+use Rattle.tg_names.specs.Names.{Name}
+use Rattle.tg_rows.proofs.Rows.{same_bytes}
+use Rattle.tg_names.specs.Sets.{nothing}
+use Rattle.tg_rows.specs.Rows.{Edges, Entries, IsLabel, label_in, row_number}
 use Rattle.tg_text.specs.Canonical.{edge_end, edge_front, edge_line, line_of}
 use Rattle.tg_text.specs.Spelling.{rights_text, spaced}
 use Rattle.tg_text.proofs.NameOrder.{Strict, Above, among, absent, first, reversed, above_above, same_name-refl}

@@ -3,12 +3,11 @@ use Rattle.std.proofs.Common.{◌≡◌, ◌+◌, ◌≤◌, false, nat_lt, if�
 use Rattle.std.specs.List.{AllByRecursion}
 use Rattle.std.proofs.lemmas.Bool.Decides.{nat_tests}
 use Rattle.std.proofs.lemmas.List.{length-append}
-use Rattle.tg_graph.specs.declared.right_sets.Rights.{Rights}
+use Rattle.tg_names.specs.declared.right_sets.Rights.{Rights}
 use Rattle.tg_graph.specs.declared.rules.Rule.{Rule}
 use Rattle.tg_graph.specs.declared.rules.Rule.TheVariants.{Take, Grant, Create, Remove}
-use Rattle.tg_graph.specs.Graphs.{Name}
-use Rattle.tg_graph.specs.Names.{IsName}
-use Rattle.tg_graph.specs.Sets.{IsNamed}
+use Rattle.tg_names.specs.Names.{Name, IsName}
+use Rattle.tg_names.specs.Sets.{IsNamed}
 use Rattle.tg_graph.specs.Rules.{rights_of}
 use Rattle.tg_graph.specs.RuleWords.{IsRule}
 use Rattle.tg_text.specs.declared.faults.TextKind.TheVariants.{BadRights, LineTooLong}

@@ -3,8 +3,8 @@ use Rattle.std.proofs.Common.{◌≡◌, refl, ◌∙◌, ap, subst, inl, inr, �
 use Rattle.std.specs.Prelude.{is_ok}
 use Rattle.std.proofs.lemmas.Bool.{false≢true, eqb-false, ltb-false, ne_eqb, le-ltb}
 use Rattle.std.proofs.lemmas.Slice.Eq.{bytes_eq-Decides}
-use Rattle.tg_graph.specs.declared.names.NameFault.TheVariants.{Empty, TooLong}
-use Rattle.tg_graph.specs.Names.{IsName, name_of, checked, first_bad}
+use Rattle.tg_names.specs.declared.names.NameFault.TheVariants.{Empty, TooLong}
+use Rattle.tg_names.specs.Names.{IsName, name_of, checked, first_bad}
 use Rattle.tg_text.specs.declared.faults.TextKind.{TextKind}
 use Rattle.tg_text.specs.declared.faults.TextKind.TheVariants.{BadName}
 use Rattle.tg_text.specs.Reading.{◌>>=◌}

@@ -5,9 +5,10 @@ use Rattle.std.specs.declared.cmp.Ordering.{Ordering}
 use Rattle.std.specs.Ordering.{nat_cmp}
 use Rattle.std.specs.BTreeSet.{insert_key}
 use Rattle.std.specs.Cmp.Lexicographic.{slice_cmp}
-use Rattle.tg_graph.specs.declared.right_sets.Rights.{Rights}
-use Rattle.tg_graph.specs.Sets.{is_empty_set}
-use Rattle.tg_graph.specs.Graphs.{Name, ProtectionGraph}
+use Rattle.tg_names.specs.declared.right_sets.Rights.{Rights}
+use Rattle.tg_names.specs.Sets.{is_empty_set}
+use Rattle.tg_names.specs.Names.{Name}
+use Rattle.tg_graph.specs.Graphs.{ProtectionGraph}
 use Rattle.tg_graph.specs.Additions.{label_between}
 use Rattle.tg_text.specs.declared.versions.Version.{Version}
 use Rattle.tg_text.specs.declared.versions.Version.TheVariants.{One, Two}

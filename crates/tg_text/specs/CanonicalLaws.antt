@@ -2,7 +2,8 @@
 use Rattle.std.specs.Prelude.{◌≡◌, List, bytes_eq}
 use Rattle.std.specs.List.{list_any}
 use Rattle.std.specs.List.Sorted.{IsStrictlySortedBy}
-use Rattle.tg_graph.specs.Graphs.{Name, ProtectionGraph, SameGraph}
+use Rattle.tg_names.specs.Names.{Name}
+use Rattle.tg_graph.specs.Graphs.{ProtectionGraph, SameGraph}
 use Rattle.tg_text.specs.Canonical.{canonical_text, in_name_order, name_cmp}
 
 -- the same names, each before those that are greater

@@ -1,7 +1,7 @@
 -- The kind of a fault is the least one whose condition holds. Each condition is said by itself, of a line and of what the earlier lines made.
 use Rattle.std.specs.Prelude.{◌∷◌, ◌≡◌, ◌↔◌, ◌⊎◌, ℕ, ◌<◌, nat_lt, nat_le, not, ◌&&◌, ◌||◌, Bool, true, false, List, [], length, codes, is_some, slice_get, IsTrue, IsFalse, Option, Err, Contains}
 use Rattle.std.specs.Option.{option_map_or}
-use Rattle.tg_graph.specs.Sets.{is_empty_set}
+use Rattle.tg_names.specs.Sets.{is_empty_set}
 use Rattle.tg_graph.specs.Additions.{label_between}
 use Rattle.tg_graph.specs.Graphs.{ProtectionGraph, has_vertex}
 use Rattle.tg_text.specs.declared.faults.TextKind.{TextKind}

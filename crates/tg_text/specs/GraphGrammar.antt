@@ -1,10 +1,10 @@
 -- The grammar of the text of a graph.
 use Rattle.std.specs.Prelude.{◌≡◌, ◌↔◌, ℕ, ◌<◌, true, false, List, [], ◌∷◌, length, codes, Option, Some, None, ◌⊎◌, Ok, Err}
-use Rattle.tg_graph.specs.declared.right_sets.Rights.{Rights}
-use Rattle.tg_graph.specs.Names.{IsName}
-use Rattle.tg_graph.specs.Sets.{is_empty_set}
-use Rattle.tg_graph.specs.Letters.{set_of_letters}
-use Rattle.tg_graph.specs.Graphs.{Name, ProtectionGraph, has_vertex}
+use Rattle.tg_names.specs.declared.right_sets.Rights.{Rights}
+use Rattle.tg_names.specs.Names.{IsName, Name}
+use Rattle.tg_names.specs.Sets.{is_empty_set}
+use Rattle.tg_names.specs.Letters.{set_of_letters}
+use Rattle.tg_graph.specs.Graphs.{ProtectionGraph, has_vertex}
 use Rattle.tg_graph.specs.Rules.{with_vertex, with_rights}
 use Rattle.tg_graph.specs.Additions.{label_between}
 use Rattle.tg_text.specs.declared.faults.TextKind.{TextKind}

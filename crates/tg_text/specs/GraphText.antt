@@ -1,8 +1,9 @@
 -- The text of a graph.
 use Rattle.std.specs.Prelude.{ℕ, nat_le, ◌&&◌, ◌||◌, not, List, [], ◌∷◌, length, codes, Option, None, Some, Result, Ok, Err, if◌then◌else◌, false}
-use Rattle.tg_graph.specs.declared.right_sets.Rights.{Rights}
-use Rattle.tg_graph.specs.Graphs.{Name, ProtectionGraph, has_vertex}
-use Rattle.tg_graph.specs.Sets.{is_empty_set}
+use Rattle.tg_names.specs.declared.right_sets.Rights.{Rights}
+use Rattle.tg_names.specs.Names.{Name}
+use Rattle.tg_graph.specs.Graphs.{ProtectionGraph, has_vertex}
+use Rattle.tg_names.specs.Sets.{is_empty_set}
 use Rattle.tg_graph.specs.Rules.{with_vertex, with_rights}
 use Rattle.tg_graph.specs.Additions.{label_between}
 use Rattle.tg_text.specs.declared.faults.TextKind.{TextKind}

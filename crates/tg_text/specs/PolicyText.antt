@@ -1,10 +1,10 @@
 -- The text of a policy.
 use Rattle.std.specs.Prelude.{◌≡◌, ℕ, ◌==◌, ◌<◌, not, Bool, false, true, All, List, [], ◌∷◌, length, map, take, slice_get, codes, Some, Result, Ok, Err, if◌then◌else◌}
 use Rattle.std.specs.List.{list_any}
-use Rattle.tg_graph.specs.declared.right_sets.Rights.{Rights}
-use Rattle.tg_graph.specs.Names.{IsName}
-use Rattle.tg_graph.specs.Sets.{IsNamed, is_empty_set}
-use Rattle.tg_graph.specs.Graphs.{Name, ProtectionGraph, has_vertex, same_name}
+use Rattle.tg_names.specs.declared.right_sets.Rights.{Rights}
+use Rattle.tg_names.specs.Names.{IsName, Name, same_name}
+use Rattle.tg_names.specs.Sets.{IsNamed, is_empty_set}
+use Rattle.tg_graph.specs.Graphs.{ProtectionGraph, has_vertex}
 use Rattle.tg_text.specs.declared.faults.TextKind.{TextKind}
 use Rattle.tg_text.specs.declared.faults.TextKind.TheVariants.{BadWord, WordCount, BadName, BadRights, UnknownVertex, UnknownGroup}
 use Rattle.tg_text.specs.declared.policy_text.Operand.{Operand}

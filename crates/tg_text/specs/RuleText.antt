@@ -1,12 +1,12 @@
 -- The text of rules.
 use Rattle.std.specs.Prelude.{All, ℕ, ◌+◌, nat_lt, nat_le, List, [], ◌∷◌, length, codes, Result, Ok, Err, if◌then◌else◌}
 use Rattle.std.specs.List.{fold}
-use Rattle.tg_graph.specs.declared.right_sets.Rights.{Rights}
+use Rattle.tg_names.specs.declared.right_sets.Rights.{Rights}
 use Rattle.tg_graph.specs.declared.rules.Rule.{Rule}
 use Rattle.tg_graph.specs.declared.rules.Rule.TheVariants.{Take, Grant, Create, Remove}
-use Rattle.tg_graph.specs.Sets.{IsNamed}
+use Rattle.tg_names.specs.Sets.{IsNamed}
 use Rattle.tg_graph.specs.Rules.{rights_of}
-use Rattle.tg_graph.specs.Graphs.{Name}
+use Rattle.tg_names.specs.Names.{Name}
 use Rattle.tg_text.specs.declared.faults.TextKind.{TextKind}
 use Rattle.tg_text.specs.declared.faults.TextKind.TheVariants.{LineTooLong, BadWord, TooMany}
 use Rattle.tg_text.specs.declared.rule_text.RuleLine.{RuleLine}

@@ -1,11 +1,10 @@
 -- The grammar of the text of a script.
 use Rattle.std.specs.Prelude.{⊤, ◌≡◌, ◌↔◌, ◌⊎◌, ℕ, ◌+◌, ◌≤◌, ◌<◌, List, [], ◌∷◌, ◌++◌, length, codes, Some, Ok, Err}
-use Rattle.tg_graph.specs.declared.right_sets.Right.{Right}
+use Rattle.tg_names.specs.declared.right_sets.Right.{Right}
 use Rattle.tg_graph.specs.declared.session.Step.TheVariants.{Do, Holds, Share}
 use Rattle.tg_graph.specs.declared.session.Act.{Act}
 use Rattle.tg_graph.specs.declared.session.Act.TheVariants.{Begin, Stage, Commit, Abort}
-use Rattle.tg_graph.specs.Names.{IsName}
-use Rattle.tg_graph.specs.Graphs.{Name}
+use Rattle.tg_names.specs.Names.{IsName, Name}
 use Rattle.tg_text.specs.declared.faults.TextKind.{TextKind}
 use Rattle.tg_text.specs.declared.script_text.ScriptLine.{ScriptLine}
 use Rattle.tg_text.specs.declared.script_text.Header.{Header}

@@ -1,12 +1,12 @@
 -- The text of a script.
 use Rattle.std.specs.Prelude.{⊤, All, ℕ, ◌+◌, ◌<◌, ◌≤◌, List, [], ◌∷◌, length, codes, Result, Ok, Err, if◌then◌else◌}
-use Rattle.tg_graph.specs.declared.right_sets.Right.{Right}
+use Rattle.tg_names.specs.declared.right_sets.Right.{Right}
 use Rattle.tg_graph.specs.declared.session.Step.TheVariants.{Do, Holds, Share}
 use Rattle.tg_graph.specs.declared.session.Act.{Act}
 use Rattle.tg_graph.specs.declared.session.Act.TheVariants.{Begin, Stage, Commit, Abort}
-use Rattle.tg_graph.specs.Sets.{IsNamed}
+use Rattle.tg_names.specs.Sets.{IsNamed}
 use Rattle.tg_graph.specs.Rules.{rights_of}
-use Rattle.tg_graph.specs.Graphs.{Name}
+use Rattle.tg_names.specs.Names.{Name}
 use Rattle.tg_text.specs.declared.faults.TextKind.{TextKind}
 use Rattle.tg_text.specs.declared.faults.TextKind.TheVariants.{BadWord, WordCount, NoHeader}
 use Rattle.tg_text.specs.declared.script_text.ScriptLine.{ScriptLine}

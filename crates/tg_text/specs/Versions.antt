@@ -1,8 +1,8 @@
 -- The versions of the text of a graph.
 use Rattle.std.specs.Prelude.{ℕ, ◌==◌, ◌&&◌, not, Bool, true, codes, Option, None, Some, if◌then◌else◌}
-use Rattle.tg_graph.specs.declared.right_sets.Right.TheVariants.{A, D}
-use Rattle.tg_graph.specs.declared.right_sets.Rights.{Rights}
-use Rattle.tg_graph.specs.Sets.{member}
+use Rattle.tg_names.specs.declared.right_sets.Right.TheVariants.{A, D}
+use Rattle.tg_names.specs.declared.right_sets.Rights.{Rights}
+use Rattle.tg_names.specs.Sets.{member}
 use Rattle.tg_graph.specs.Limits.{most_vertices}
 use Rattle.tg_text.specs.declared.versions.Version.{Version}
 use Rattle.tg_text.specs.declared.versions.Version.TheVariants.{One, Two}

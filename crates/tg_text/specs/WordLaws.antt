@@ -1,7 +1,7 @@
 -- What the lines of a text, the words of a line and the numbers are.
 use Rattle.std.specs.Prelude.{◌≡◌, ◌≢◌, ◌↔◌, ◌⊎◌, ⊤, ℕ, ◌<◌, ◌≤◌, List, [], ◌∷◌, ◌++◌, length, decimal, Some, IsSome, IsTrue}
 use Rattle.std.specs.List.{AllByRecursion, flat_map}
-use Rattle.tg_graph.specs.Laws.{IsDigit}
+use Rattle.tg_names.specs.Laws.{IsDigit}
 use Rattle.tg_text.specs.Lines.{is_blank, lines_of, words_of}
 use Rattle.tg_text.specs.Words.{Word, number_of}
 

@@ -1,10 +1,10 @@
 -- What a word writes.
 use Rattle.std.specs.Prelude.{◌≡◌, refl, ℕ, ◌+◌, ◌-◌, ◌*◌, nat_le, nat_lt, Bool, ◌==◌, ◌&&◌, ◌||◌, List, [], ◌∷◌, length, codes, bytes_eq, is_ok, Option, Some, None, Result, Ok, Err, if◌then◌else◌}
-use Rattle.tg_graph.specs.declared.right_sets.Right.{Right}
-use Rattle.tg_graph.specs.declared.right_sets.Rights.{Rights}
-use Rattle.tg_graph.specs.Names.{name_of}
-use Rattle.tg_graph.specs.Sets.{right_of_letter}
-use Rattle.tg_graph.specs.Letters.{set_of_letters}
+use Rattle.tg_names.specs.declared.right_sets.Right.{Right}
+use Rattle.tg_names.specs.declared.right_sets.Rights.{Rights}
+use Rattle.tg_names.specs.Names.{name_of}
+use Rattle.tg_names.specs.Sets.{right_of_letter}
+use Rattle.tg_names.specs.Letters.{set_of_letters}
 use Rattle.tg_text.specs.declared.faults.TextKind.{TextKind}
 use Rattle.tg_text.specs.declared.faults.TextKind.TheVariants.{BadWord, WordCount, BadNumber, BadName, BadRights}
 use Rattle.tg_text.specs.Reading.{◌>>=◌}

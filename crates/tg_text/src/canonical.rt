@@ -2,7 +2,7 @@
 ghost use Rattle.std.specs.Prelude.{◌≡◌, ◌+◌, ◌<◌, ◌≤◌, ◌∷◌, [], ◌++◌, length, IfOk, OnOk, vec_len, vec_capacity};
 ghost use Rattle.std.specs.List.{flat_map, list_all};
 ghost use Rattle.tg_graph.specs.GraphOf.{graph_of};
-ghost use Rattle.tg_graph.specs.Rows.{IsGraph, row_number};
+ghost use Rattle.tg_rows.specs.Rows.{IsGraph, row_number};
 ghost use Rattle.tg_text.specs.Versions.{has_letters};
 ghost use Rattle.tg_text.specs.Canonical.{canonical_text, edge_end, edge_front, in_name_order, letters_suffice, row_text, version_for, version_line, vertex_line};
 

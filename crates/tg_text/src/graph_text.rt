@@ -1,7 +1,7 @@
 //! The text of a graph.
 ghost use Rattle.std.specs.Prelude.{⊤, ◌≡◌, ◌<◌, ◌∷◌, [], false, MatchBool, Ok};
-ghost use Rattle.tg_graph.specs.Names.{IsName};
-ghost use Rattle.tg_graph.specs.Sets.{IsNamed, is_empty_set};
+ghost use Rattle.tg_names.specs.Names.{IsName};
+ghost use Rattle.tg_names.specs.Sets.{IsNamed, is_empty_set};
 ghost use Rattle.tg_graph.specs.GraphOf.{graph_of};
 ghost use Rattle.tg_graph.specs.Waiting.{graph_built};
 ghost use Rattle.tg_text.specs.Lines.{words_of};

@@ -1,8 +1,8 @@
 //! Lines whose words stand between single spaces, as they mostly do: read from the front of a text in
 //! one pass, before the end of the line is looked for.
 ghost use Rattle.std.specs.Prelude.{◌≡◌, ◌<◌, ◌≤◌, ◌∷◌, ◌++◌, [], Some, IfSome, codes, length};
-ghost use Rattle.tg_graph.specs.Letters.{set_of_letters};
-ghost use Rattle.tg_graph.specs.Names.{IsName};
+ghost use Rattle.tg_names.specs.Letters.{set_of_letters};
+ghost use Rattle.tg_names.specs.Names.{IsName};
 ghost use Rattle.tg_graph.specs.Rules.{rights_of};
 ghost use Rattle.tg_graph.specs.RuleWords.{IsRule};
 ghost use Rattle.tg_text.specs.Canonical.{line_of};

@@ -1,6 +1,6 @@
 //! The text of rules.
 ghost use Rattle.std.specs.Prelude.{◌≡◌, ◌∷◌, ℕ, nat_le, IfOk, OnOk, MatchOption};
-ghost use Rattle.tg_graph.specs.Sets.{IsNamed};
+ghost use Rattle.tg_names.specs.Sets.{IsNamed};
 ghost use Rattle.tg_graph.specs.Rules.{rights_of};
 ghost use Rattle.tg_text.specs.Limits.{most_rules};
 ghost use Rattle.tg_text.specs.Lines.{words_of};
@@ -97,7 +97,7 @@ pub fn read_rule(line: &[u8]) -> Result<Rule, TextKind>
 /// What is given the rules of a text in turn, as they are read.
 pub trait RuleSink {
     ghost use Rattle.std.specs.Prelude.{◌≡◌, OnOk, OnErr};
-    ghost use Rattle.tg_graph.specs.Sets.{IsNamed};
+    ghost use Rattle.tg_names.specs.Sets.{IsNamed};
     ghost use Rattle.tg_graph.specs.Rules.{rights_of};
     ghost use Rattle.tg_text.specs.declared.rule_text.RuleLine.{RuleLine};
 

@@ -2,7 +2,7 @@
 ghost use Rattle.std.specs.Prelude.{◌≡◌, ◌+◌, ◌/◌, ◌%◌, ◌≤◌, ◌<◌, ◌++◌, ◌∷◌, [], IfOk, IfSome, OnOk, OnErr, length, vec_len, vec_capacity};
 ghost use Rattle.std.specs.Fmt.{decimal};
 ghost use Rattle.tg_text.specs.Spelling.{rule_text, reply_text, refusal_words, rights_text, spaced};
-ghost use Rattle.tg_graph.specs.Letters.{letters_among};
+ghost use Rattle.tg_names.specs.Letters.{letters_among};
 
 use bitflags::Flags;
 use std::alloc::{AllocError, Global};

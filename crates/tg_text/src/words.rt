@@ -1,6 +1,6 @@
 //! The words of a line.
 ghost use Rattle.std.specs.Prelude.{◌≡◌, ◌<◌, ◌≤◌, ◌∷◌, [], ◌+◌, ◌*◌, length, IfOk, MatchResult, Ok, Err};
-ghost use Rattle.tg_graph.specs.Sets.{IsNamed};
+ghost use Rattle.tg_names.specs.Sets.{IsNamed};
 ghost use Rattle.tg_text.specs.Lines.{words_of};
 ghost use Rattle.tg_text.specs.Words.{no_words, one_word, three_words, four_words, name_at, rights_at, right_at, number_up_to, number_of, with_digits, header_number};
 ghost use Rattle.tg_text.specs.GraphText.{edge_rights_at};

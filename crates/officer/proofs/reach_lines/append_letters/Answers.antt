@@ -1,7 +1,7 @@
 use Rattle.std.proofs.Common.{◌≡◌, ℕ, List, [], ◌∷◌, ◌++◌, get_or, refl, sym, ap, ◌∙◌}
 use Rattle.std.proofs.lemmas.List.{append-nil}
-use Rattle.tg_graph.specs.declared.right_sets.Right.{Right}
-use Rattle.tg_graph.specs.declared.right_sets.Right.TheVariants.{T}
+use Rattle.tg_names.specs.declared.right_sets.Right.{Right}
+use Rattle.tg_names.specs.declared.right_sets.Right.TheVariants.{T}
 use Rattle.officer.proofs.ReachLetters.{letters-more, letter-there, letter-absent}
 use Rattle.officer.proofs.reach_lines.append_letters.Goals as goal
 use Rattle.officer.proofs.reach_lines.append_letters.Goals.{then-has+in_ok-push, else-has}

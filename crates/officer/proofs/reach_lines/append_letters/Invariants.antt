@@ -1,5 +1,5 @@
 use Rattle.std.proofs.Common.{◌≡◌, ◌++◌, take}
-use Rattle.tg_graph.specs.Letters.{letters_among}
+use Rattle.tg_names.specs.Letters.{letters_among}
 use Rattle.officer.proofs.reach_lines.append_letters.Given as goal
 
 abbrev pub invariant-loop-right : goal.invariant-loop-right

@@ -1,8 +1,9 @@
 use Rattle.std.proofs.Common.{◌≡◌, ◌∙◌, sym, true≢false}
-use Rattle.tg_graph.specs.declared.right_sets.Right.{Right}
-use Rattle.tg_graph.specs.declared.right_sets.Rights.{Rights}
-use Rattle.tg_graph.specs.Sets.{member}
-use Rattle.tg_graph.specs.Graphs.{Name, ProtectionGraph}
+use Rattle.tg_names.specs.declared.right_sets.Right.{Right}
+use Rattle.tg_names.specs.declared.right_sets.Rights.{Rights}
+use Rattle.tg_names.specs.Sets.{member}
+use Rattle.tg_names.specs.Names.{Name}
+use Rattle.tg_graph.specs.Graphs.{ProtectionGraph}
 use Rattle.tg_graph.specs.GraphOf.{graph_of}
 use Rattle.tg_graph.specs.RuleLists.{CanShareAll}
 use Rattle.tg_analysis.proofs.answers.can_share_all.Goals as goal

@@ -1,6 +1,6 @@
 use Rattle.std.proofs.Common.{List, sym, subst}
 use Rattle.std.specs.Map.{keys_of}
-use Rattle.tg_graph.specs.Graphs.{Name}
+use Rattle.tg_names.specs.Names.{Name}
 use Rattle.tg_analysis.specs.Searches.{AddsUnmet}
 use Rattle.tg_analysis.proofs.Rounds.{unmet-push}
 use Rattle.tg_analysis.proofs.chains.add_unmet.Goals as goal

@@ -1,5 +1,5 @@
 use Rattle.std.proofs.Common.{List, sym, ◌∙◌, subst}
-use Rattle.tg_graph.specs.Graphs.{Name}
+use Rattle.tg_names.specs.Names.{Name}
 use Rattle.tg_analysis.specs.Searches.{GoesBack}
 use Rattle.tg_analysis.proofs.Ways.{goes-back-push}
 use Rattle.tg_analysis.proofs.chains.way_back.Goals as goal

@@ -1,6 +1,6 @@
 use Rattle.std.proofs.Common.{List, sym, subst, arith}
 use Rattle.std.proofs.lemmas.Map.Entries.{length-keys_of}
-use Rattle.tg_graph.specs.Graphs.{Name}
+use Rattle.tg_names.specs.Names.{Name}
 use Rattle.tg_graph.specs.GraphOf.{graph_of}
 use Rattle.tg_analysis.specs.Searches.{IsWay}
 use Rattle.tg_analysis.proofs.Derived.{part_added, way_short, way_joined, none_derives}

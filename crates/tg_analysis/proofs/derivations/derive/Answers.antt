@@ -1,7 +1,7 @@
 use Rattle.std.proofs.Common.{get_or, ap, sym, ◌∙◌, subst, arith}
-use Rattle.tg_graph.specs.declared.right_sets.Right.TheVariants.{T}
-use Rattle.tg_graph.specs.Letters.{all_rights}
-use Rattle.tg_graph.specs.Graphs.{Name}
+use Rattle.tg_names.specs.declared.right_sets.Right.TheVariants.{T}
+use Rattle.tg_names.specs.Letters.{all_rights}
+use Rattle.tg_names.specs.Names.{Name}
 use Rattle.tg_graph.specs.GraphOf.{graph_of}
 use Rattle.tg_graph.specs.RuleLists.{CanShare}
 use Rattle.tg_analysis.specs.declared.chains.Search.{Search}

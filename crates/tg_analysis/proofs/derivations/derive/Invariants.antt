@@ -1,5 +1,5 @@
 use Rattle.std.proofs.Common.{◌≡◌, take}
-use Rattle.tg_graph.specs.Letters.{all_rights}
+use Rattle.tg_names.specs.Letters.{all_rights}
 use Rattle.tg_graph.specs.GraphOf.{graph_of}
 use Rattle.tg_analysis.specs.Searches.{IsSearching}
 use Rattle.tg_analysis.specs.SetDerivations.{HasParts}

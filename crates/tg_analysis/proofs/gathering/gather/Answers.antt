@@ -1,5 +1,5 @@
 use Rattle.std.proofs.Common.{length, arith}
-use Rattle.tg_graph.specs.Rows.{row_number}
+use Rattle.tg_rows.specs.Rows.{row_number}
 use Rattle.tg_analysis.proofs.Gathered.{gathers-row, edge-within}
 use Rattle.tg_analysis.proofs.gathering.gather.Goals as goal
 

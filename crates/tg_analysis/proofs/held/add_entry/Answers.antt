@@ -1,9 +1,9 @@
 use Rattle.std.proofs.Common.{◌||◌, get_or, sym, ap, subst, ◌∙◌}
 use Rattle.std.proofs.lemmas.Option.{slice_get-get_or}
-use Rattle.tg_graph.specs.declared.right_sets.Right.{Right}
-use Rattle.tg_graph.specs.declared.right_sets.Rights.{Rights}
-use Rattle.tg_graph.specs.Sets.{member, IsNamed}
-use Rattle.tg_graph.proofs.Sets.{member-union, named-union}
+use Rattle.tg_names.specs.declared.right_sets.Right.{Right}
+use Rattle.tg_names.specs.declared.right_sets.Rights.{Rights}
+use Rattle.tg_names.specs.Sets.{member, IsNamed}
+use Rattle.tg_names.proofs.Sets.{member-union, named-union}
 use Rattle.tg_analysis.specs.declared.held.Held.{Held}
 use Rattle.tg_analysis.proofs.Claims.{no_entry, joins-more}
 use Rattle.tg_analysis.proofs.held.add_entry.Goals as goal

@@ -1,6 +1,6 @@
 use Rattle.std.proofs.Common.{◌≡◌, List, ℕ, get_or, sym, subst, ◌∙◌, arith}
-use Rattle.tg_graph.specs.declared.right_sets.Right.TheVariants.{T}
-use Rattle.tg_graph.specs.Letters.{all_rights}
+use Rattle.tg_names.specs.declared.right_sets.Right.TheVariants.{T}
+use Rattle.tg_names.specs.Letters.{all_rights}
 use Rattle.tg_analysis.specs.Cases.{IsClaimWithout}
 use Rattle.tg_analysis.proofs.CaseOrder.{right-at}
 use Rattle.tg_analysis.proofs.Claims.{NoneLacks, lack-some, lack-none, none-at-all}

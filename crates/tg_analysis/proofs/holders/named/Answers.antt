@@ -3,9 +3,9 @@ use Rattle.std.specs.Int.{bit_at}
 use Rattle.bitflags.proofs.OnLiterals.{bitflags_on_literals}
 use Rattle.std.proofs.lemmas.Nat.{and_le_r}
 use Rattle.std.proofs.lemmas.Nat.Bits.{bit_at_and, bit_at-lt}
-use Rattle.tg_graph.specs.declared.right_sets.Right.{Right}
-use Rattle.tg_graph.specs.declared.right_sets.Right.TheVariants.{T, G, R, W, E, A, D}
-use Rattle.tg_graph.specs.Sets.{bit_of}
+use Rattle.tg_names.specs.declared.right_sets.Right.{Right}
+use Rattle.tg_names.specs.declared.right_sets.Right.TheVariants.{T, G, R, W, E, A, D}
+use Rattle.tg_names.specs.Sets.{bit_of}
 use Rattle.tg_analysis.proofs.holders.named.Goals as goal
 
 -- each right has its bit among the seven

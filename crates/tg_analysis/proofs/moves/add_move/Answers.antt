@@ -1,6 +1,6 @@
 use Rattle.std.proofs.Common.{◌≡◌, ◌+◌, ◌<◌, ◌^◌, ◌++◌, ◌∷◌, [], sym, ap, ◌∙◌, arith}
 use Rattle.tg_graph.specs.GraphOf.{graph_of}
-use Rattle.tg_graph.specs.Names.{helper_name}
+use Rattle.tg_names.specs.Names.{helper_name}
 use Rattle.tg_analysis.specs.Derivations.{helper_rules}
 use Rattle.tg_graph.specs.RuleLists.{after_all}
 use Rattle.tg_analysis.proofs.Moved.{move_direct, move_with_helper}

@@ -1,5 +1,5 @@
 use Rattle.std.proofs.Common.{◌≡◌, ℕ, ◌+◌, ◌<◌, ◌≤◌, true, length, sym, ap, ◌∙◌, arith}
-use Rattle.tg_graph.specs.Names.{helper_name}
+use Rattle.tg_names.specs.Names.{helper_name}
 use Rattle.tg_graph.specs.Graphs.{has_vertex}
 use Rattle.tg_graph.specs.GraphOf.{graph_of}
 use Rattle.tg_analysis.proofs.Helpers.{used_next, helpers_within}

@@ -1,5 +1,5 @@
 use Rattle.std.proofs.Common.{◌≡◌, ℕ, ◌+◌, ◌-◌, ◌<◌, ◌≤◌, true, length}
-use Rattle.tg_graph.specs.Names.{helper_name}
+use Rattle.tg_names.specs.Names.{helper_name}
 use Rattle.tg_graph.specs.Graphs.{has_vertex}
 use Rattle.tg_graph.specs.GraphOf.{graph_of}
 use Rattle.tg_analysis.proofs.moves.free_helper.Given as goal

@@ -1,9 +1,9 @@
 use Rattle.std.proofs.Common.{◌<◌, ◌^◌, ◌⊎◌, Bool, IsTrue, MatchBool, inl, inr, length, refl, sym, subst, ◌∙◌, true≢false, arith}
 use Rattle.std.specs.Map.{keys_of}
 use Rattle.std.proofs.lemmas.Map.Entries.{length-keys_of}
-use Rattle.tg_graph.specs.Sets.{is_empty_set}
+use Rattle.tg_names.specs.Sets.{is_empty_set}
 use Rattle.tg_graph.specs.GraphOf.{graph_of}
-use Rattle.tg_graph.specs.Rows.{Entries}
+use Rattle.tg_rows.specs.Rows.{Entries}
 use Rattle.tg_graph.proofs.Positions.{at-position}
 use Rattle.tg_analysis.specs.declared.spreading.Asked.{Asked}
 use Rattle.tg_analysis.specs.declared.spreading.Spread.{Spread}

@@ -1,8 +1,8 @@
 use Rattle.std.proofs.Common.{sym, ap, ◌∙◌, is_some, bytes_eq}
 use Rattle.std.specs.Option.{option_map_or}
 use Rattle.std.proofs.lemmas.Map.Made.{is_some-lookup}
-use Rattle.tg_graph.specs.Sets.{nothing}
-use Rattle.tg_graph.specs.Rows.{label_in}
+use Rattle.tg_names.specs.Sets.{nothing}
+use Rattle.tg_rows.specs.Rows.{label_in}
 use Rattle.tg_graph.proofs.checks.row_of.Goals as goal
 
 pub returns-in-Some : goal.returns-in-Some

@@ -1,6 +1,6 @@
 use Rattle.std.proofs.Common.{sym}
 use Rattle.tg_graph.proofs.Graphs.{changes-found, same-found}
-use Rattle.tg_graph.proofs.Rows.{on_err_from}
+use Rattle.tg_rows.proofs.Rows.{on_err_from}
 use Rattle.tg_graph.proofs.TakenOver.{row-at, set_value-at}
 use Rattle.tg_graph.proofs.protection.widen.Goals as goal
 

@@ -1,7 +1,7 @@
 use Rattle.std.proofs.Common.{◌∙◌, ap, sym, subst, is_some, bytes_eq, ◌<◌}
 use Rattle.std.proofs.lemmas.Map.Made.{is_some-lookup}
 use Rattle.indexmap.specs.IndexMap.{spare, insert_entry}
-use Rattle.tg_graph.proofs.Rows.{on_ok-is}
+use Rattle.tg_rows.proofs.Rows.{on_ok-is}
 use Rattle.tg_graph.proofs.Drafts.{put-set}
 use Rattle.tg_graph.proofs.row_maps.put.Goals as goal
 

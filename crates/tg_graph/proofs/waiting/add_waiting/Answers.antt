@@ -5,10 +5,10 @@ use Rattle.std.proofs.lemmas.Bool.Decides.{Decides-eqb}
 use Rattle.std.proofs.lemmas.List.{length-map, get_or_read_under}
 use Rattle.std.proofs.lemmas.Option.{slice_get_within}
 use Rattle.tg_graph.specs.declared.protection.EdgeFault.TheVariants.{EdgeThere, Empty}
-use Rattle.tg_graph.specs.declared.right_sets.Rights.{Rights}
-use Rattle.tg_graph.specs.Graphs.{Name}
-use Rattle.tg_graph.specs.Rows.{Entries, Edges}
-use Rattle.tg_graph.specs.Sets.{nothing, is_empty_set, IsNamed}
+use Rattle.tg_names.specs.declared.right_sets.Rights.{Rights}
+use Rattle.tg_names.specs.Names.{Name}
+use Rattle.tg_rows.specs.Rows.{Entries, Edges}
+use Rattle.tg_names.specs.Sets.{nothing, is_empty_set, IsNamed}
 use Rattle.tg_graph.specs.Waiting.{graph_built, MayWait}
 use Rattle.tg_graph.proofs.BuiltGraphs.{inside, fault-waits, built-waits}
 use Rattle.tg_graph.proofs.waiting.add_waiting.Goals as goal

@@ -2,8 +2,8 @@ use Rattle.std.proofs.Common.{◌+◌, ◌<◌, sym, ap, subst, ◌∙◌, lengt
 use Rattle.std.specs.Map.{keys_of}
 use Rattle.std.proofs.lemmas.List.{length-map, length-set, length-replicate}
 use Rattle.std.proofs.lemmas.Option.{slice_get_within}
-use Rattle.tg_graph.specs.Sets.{nothing}
-use Rattle.tg_graph.specs.Rows.{row_number}
+use Rattle.tg_names.specs.Sets.{nothing}
+use Rattle.tg_rows.specs.Rows.{row_number}
 use Rattle.tg_graph.proofs.Positions.{at-position}
 use Rattle.tg_graph.proofs.WaitingLabels.{IsCopied, row-number, edge-named, copied-none, copied-one, copied-all}
 use Rattle.tg_graph.proofs.waiting.labels_of.Goals as goal

@@ -1,6 +1,6 @@
 use Rattle.std.proofs.Common.{◌≡◌, length}
 use Rattle.std.specs.Map.{keys_of}
-use Rattle.tg_graph.specs.Rows.{row_number}
+use Rattle.tg_rows.specs.Rows.{row_number}
 use Rattle.tg_graph.proofs.WaitingLabels.{IsCopied}
 use Rattle.tg_graph.proofs.waiting.labels_of.Given as goal
 

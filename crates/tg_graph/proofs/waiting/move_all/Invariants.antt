@@ -1,7 +1,7 @@
 use Rattle.std.proofs.Common.{◌≡◌, ◌<◌, ℕ, List, get_or}
 use Rattle.std.specs.Map.{keys_of}
-use Rattle.tg_graph.specs.declared.right_sets.Rights.{Rights}
-use Rattle.tg_graph.specs.Sets.{nothing}
+use Rattle.tg_names.specs.declared.right_sets.Rights.{Rights}
+use Rattle.tg_names.specs.Sets.{nothing}
 use Rattle.tg_graph.specs.Waiting.{IsMoving}
 use Rattle.tg_graph.proofs.waiting.move_all.Given as goal
 

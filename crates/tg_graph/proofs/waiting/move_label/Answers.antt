@@ -2,9 +2,9 @@ use Rattle.std.proofs.Common.{◌≡◌, ◌<◌, sym, ap, subst, ◌∙◌, len
 use Rattle.std.specs.Map.{keys_of}
 use Rattle.std.proofs.lemmas.Bool.{not-true}
 use Rattle.std.proofs.lemmas.Bool.Decides.{nat_tests}
-use Rattle.tg_graph.specs.declared.right_sets.Rights.{Rights}
-use Rattle.tg_graph.specs.Rows.{Adds}
-use Rattle.tg_graph.specs.Sets.{nothing, is_empty_set}
+use Rattle.tg_names.specs.declared.right_sets.Rights.{Rights}
+use Rattle.tg_rows.specs.Rows.{Adds}
+use Rattle.tg_names.specs.Sets.{nothing, is_empty_set}
 use Rattle.tg_graph.specs.Waiting.{IsMoving}
 use Rattle.tg_graph.proofs.WaitingLabels.{moving-one}
 use Rattle.tg_graph.proofs.waiting.move_label.Goals as goal

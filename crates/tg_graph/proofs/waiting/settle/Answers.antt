@@ -3,8 +3,8 @@ use Rattle.std.specs.Map.{keys_of}
 use Rattle.std.proofs.lemmas.List.{length-map, get_or_read_under}
 use Rattle.std.proofs.lemmas.Option.{slice_get-get_or}
 use Rattle.indexmap.specs.Layout.{set_value_at, length-set_value_at}
-use Rattle.tg_graph.specs.declared.right_sets.Rights.{Rights}
-use Rattle.tg_graph.specs.Rows.{Entries}
+use Rattle.tg_names.specs.declared.right_sets.Rights.{Rights}
+use Rattle.tg_rows.specs.Rows.{Entries}
 use Rattle.tg_graph.specs.Waiting.{graph_built, MayWait, HasMoved}
 use Rattle.tg_graph.proofs.BuiltGraphs.{built-settled, may_wait-set, may_wait-same}
 use Rattle.tg_graph.proofs.waiting.settle.Goals as goal

@@ -1,7 +1,7 @@
 use Rattle.std.proofs.Common.{◌≡◌, take}
 use Rattle.std.specs.List.{list_any}
-use Rattle.tg_graph.specs.Graphs.{Name, same_name}
-use Rattle.tg_graph.specs.Rows.{is_known}
+use Rattle.tg_names.specs.Names.{Name, same_name}
+use Rattle.tg_rows.specs.Rows.{is_known}
 use Rattle.tg_graph.specs.GraphOf.{graph_of}
 use Rattle.tg_graph.specs.Drafts.{Fits}
 use Rattle.tg_store.specs.Answers.{after_steps}

@@ -1,7 +1,7 @@
 use Rattle.std.proofs.Common.{◌++◌, ℕ, Vec, Global, take, vec_len, vec_capacity, arith, sym, ap, ◌∙◌}
 use Rattle.std.specs.List.{flat_map}
 use Rattle.std.proofs.lemmas.List.{append-nil, take_all, flat_map_more}
-use Rattle.tg_graph.specs.Rows.{row_number}
+use Rattle.tg_rows.specs.Rows.{row_number}
 use Rattle.tg_text.specs.Canonical.{edge_end}
 use Rattle.tg_text.proofs.GraphLines.{found_row, no_row, is-row, label-at, row-text_some, row-text_none}
 use Rattle.tg_text.proofs.RowLines.{edge_of, edge-parts, take_one, past_end}

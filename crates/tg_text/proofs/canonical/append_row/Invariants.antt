@@ -1,6 +1,6 @@
 use Rattle.std.proofs.Common.{◌≡◌, ◌+◌, ◌-◌, ◌*◌, ◌≤◌, ◌++◌, take, vec_len, vec_capacity}
 use Rattle.std.specs.List.{flat_map}
-use Rattle.tg_graph.specs.Rows.{row_number}
+use Rattle.tg_rows.specs.Rows.{row_number}
 use Rattle.tg_text.proofs.RowLines.{edge_of}
 use Rattle.tg_text.proofs.canonical.append_row.Given as goal
 

@@ -6,8 +6,8 @@ use Rattle.std.proofs.lemmas.List.{take_all}
 use Rattle.std.proofs.lemmas.List.Sorted.{list_any-IsPermutation}
 use Rattle.std.proofs.lemmas.Map.Keys.{IsDistinct-IsPermutation}
 use Rattle.std.proofs.lemmas.Map.Entries.{length-keys_of}
-use Rattle.tg_graph.specs.Graphs.{Name}
-use Rattle.tg_graph.proofs.Order.{strict_from_sorted}
+use Rattle.tg_names.specs.Names.{Name}
+use Rattle.tg_rows.proofs.Order.{strict_from_sorted}
 use Rattle.tg_text.proofs.NameOrder.{strict_same, strict-in_order, among-in_order}
 use Rattle.tg_text.proofs.RowLines.{take_one, past_end}
 use Rattle.tg_text.proofs.canonical.names_in_order.Goals as goal

@@ -1,5 +1,5 @@
 use Rattle.std.proofs.Common.{arith, sym, ◌∙◌}
-use Rattle.tg_graph.specs.Rows.{row_number}
+use Rattle.tg_rows.specs.Rows.{row_number}
 use Rattle.tg_text.proofs.Labels.{row-fails, row-more}
 use Rattle.tg_text.proofs.RowLines.{past_end}
 use Rattle.tg_text.proofs.canonical.row_letters_suffice.Goals as goal

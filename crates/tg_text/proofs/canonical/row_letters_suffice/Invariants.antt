@@ -1,5 +1,5 @@
 use Rattle.std.proofs.Common.{◌≡◌, take, true}
-use Rattle.tg_graph.specs.Rows.{row_number}
+use Rattle.tg_rows.specs.Rows.{row_number}
 use Rattle.tg_text.proofs.Labels.{row_suffices}
 use Rattle.tg_text.proofs.canonical.row_letters_suffice.Given as goal
 

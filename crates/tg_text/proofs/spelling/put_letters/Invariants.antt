@@ -1,5 +1,5 @@
 use Rattle.std.proofs.Common.{◌≡◌, ◌+◌, ◌≤◌, ◌++◌, length, drop, vec_len, vec_capacity}
-use Rattle.tg_graph.specs.Letters.{letters_among}
+use Rattle.tg_names.specs.Letters.{letters_among}
 use Rattle.tg_text.proofs.spelling.put_letters.Given as goal
 
 abbrev pub invariant-loop-right : goal.invariant-loop-right

@@ -2,7 +2,7 @@ use Rattle.std.proofs.Common.{◌≡◌, ◌||◌, Bool, false, List, Option, Ve
 use Rattle.std.specs.Option.{option_map_or}
 use Rattle.std.specs.Vec.{with_items}
 use Rattle.std.proofs.lemmas.List.{with_items_is}
-use Rattle.tg_graph.specs.Graphs.{Name}
+use Rattle.tg_names.specs.Names.{Name}
 use Rattle.officer.specs.declared.groups.Groups.{Groups}
 use Rattle.officer.specs.PolicyParts.{is_marked_name, membership}
 use Rattle.officer.proofs.GroupLaws.{empty-marks, group-joined, marks-joined, or_other}

@@ -1,5 +1,5 @@
 use Rattle.std.proofs.Common.{◌≡◌, length, take}
-use Rattle.tg_graph.specs.Graphs.{Name}
+use Rattle.tg_names.specs.Names.{Name}
 use Rattle.officer.specs.Policies.{some_stands_for}
 use Rattle.officer.specs.PolicyParts.{is_marked_name, membership}
 use Rattle.officer.proofs.groups.Groups.marks_of.Given as goal

@@ -1,7 +1,7 @@
 use Rattle.std.proofs.Common.{◌≡◌, ◌↔◌, ℕ, IsTrue, Bool, false, List, Option, Some, Vec, Global, sym, ap, subst, ◌∙◌}
 use Rattle.std.specs.BTreeMap.{get}
 use Rattle.std.specs.Option.{option_map_or}
-use Rattle.tg_graph.specs.Graphs.{Name}
+use Rattle.tg_names.specs.Names.{Name}
 use Rattle.tg_text.specs.Canonical.{name_cmp}
 use Rattle.tg_text.specs.declared.policy_text.Operand.{Operand}
 use Rattle.tg_analysis.specs.Cases.{StandsAt}

@@ -1,7 +1,7 @@
 use Rattle.std.proofs.Common.{◌≡◌, ◌<◌, ◌^◌, ℕ, List, Some, length, slice_get, sym, subst, arith}
 use Rattle.std.specs.Map.{keys_of}
 use Rattle.std.proofs.lemmas.Map.Entries.{length-keys_of}
-use Rattle.tg_graph.specs.Graphs.{Name}
+use Rattle.tg_names.specs.Names.{Name}
 use Rattle.tg_analysis.specs.Cases.{AreMembersFrom, IsIndexed}
 use Rattle.tg_analysis.proofs.Claims.{numbers-below}
 use Rattle.tg_analysis.proofs.case_index.CaseIndex.of.Goals as goal

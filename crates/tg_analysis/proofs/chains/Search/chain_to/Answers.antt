@@ -1,7 +1,7 @@
 use Rattle.std.proofs.Common.{◌<◌, length, sym, ◌∙◌, subst, arith}
 use Rattle.std.proofs.lemmas.Option.{slice_get_within}
 use Rattle.std.specs.Map.{keys_of}
-use Rattle.tg_graph.specs.Graphs.{Name}
+use Rattle.tg_names.specs.Names.{Name}
 use Rattle.tg_graph.specs.GraphOf.{graph_of}
 use Rattle.tg_analysis.specs.Sharing.{HeldInIsland}
 use Rattle.tg_analysis.specs.Searches.{IsWay}

@@ -1,5 +1,5 @@
 use Rattle.std.proofs.Common.{◌≡◌, ◌∙◌, length, subst, arith}
-use Rattle.tg_graph.specs.Rows.{row_number}
+use Rattle.tg_rows.specs.Rows.{row_number}
 use Rattle.tg_analysis.specs.Flooding.{MeetsEnds}
 use Rattle.tg_analysis.proofs.FloodSteps.{ends-none, ends-next}
 use Rattle.tg_analysis.proofs.flooding.Flood.meet_row.Goals as goal

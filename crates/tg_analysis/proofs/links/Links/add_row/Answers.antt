@@ -1,5 +1,5 @@
 use Rattle.std.proofs.Common.{◌≡◌, length, arith, subst}
-use Rattle.tg_graph.specs.Rows.{row_number}
+use Rattle.tg_rows.specs.Rows.{row_number}
 use Rattle.tg_analysis.specs.Linked.{LinksUpTo}
 use Rattle.tg_analysis.proofs.Linked.{links-row}
 use Rattle.tg_analysis.proofs.links.Links.add_row.Goals as goal

@@ -1,8 +1,8 @@
 use Rattle.std.proofs.Common.{◌≤◌, IsTrue, inl, inr, length, refl, sym, ◌∙◌, true≢false, arith}
 use Rattle.std.specs.Map.{keys_of}
 use Rattle.std.proofs.lemmas.Map.Entries.{length-keys_of}
-use Rattle.tg_graph.specs.declared.right_sets.Right.{Right}
-use Rattle.tg_graph.specs.Sets.{member}
+use Rattle.tg_names.specs.declared.right_sets.Right.{Right}
+use Rattle.tg_names.specs.Sets.{member}
 use Rattle.tg_graph.specs.GraphOf.{graph_of}
 use Rattle.tg_analysis.specs.Sharing.{HeldInIsland}
 use Rattle.tg_analysis.proofs.Spreads.{all_held, then_none_missing, none_among, spread-ends}

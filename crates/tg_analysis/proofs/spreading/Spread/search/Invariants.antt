@@ -1,5 +1,5 @@
 use Rattle.std.proofs.Common.{IsTrue, ◌⊎◌}
-use Rattle.tg_graph.specs.Sets.{is_empty_set}
+use Rattle.tg_names.specs.Sets.{is_empty_set}
 use Rattle.tg_analysis.specs.Spreading.{IsMissing, IsAtRest}
 use Rattle.tg_analysis.proofs.spreading.Spread.search.Given as goal
 

@@ -1,7 +1,7 @@
 use Rattle.std.proofs.Common.{◌∙◌, sym, ap, subst, bytes_eq}
 use Rattle.std.specs.Map.{keys_of}
 use Rattle.indexmap.specs.IndexSet.{insert_key}
-use Rattle.tg_graph.specs.Rows.{is_known}
+use Rattle.tg_rows.specs.Rows.{is_known}
 use Rattle.tg_graph.specs.GraphOf.{graph_of}
 use Rattle.tg_graph.specs.Rules.{with_rights}
 use Rattle.tg_graph.specs.Drafts.{Fits, laid_over}

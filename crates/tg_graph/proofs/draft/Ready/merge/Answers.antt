@@ -1,5 +1,5 @@
 use Rattle.std.proofs.Common.{sym, subst, ap, length, arith}
-use Rattle.tg_graph.specs.Rows.{IsGraph}
+use Rattle.tg_rows.specs.Rows.{IsGraph}
 use Rattle.tg_graph.specs.Drafts.{Fits}
 use Rattle.tg_graph.proofs.Drafts.{whole-graph, length-laid}
 use Rattle.tg_graph.proofs.draft.Ready.merge.Goals as goal

@@ -1,5 +1,5 @@
 use Rattle.std.proofs.Common.{◌≡◌, ◌<◌, ℕ, false, get_or}
-use Rattle.tg_graph.specs.Sets.{nothing}
+use Rattle.tg_names.specs.Sets.{nothing}
 use Rattle.tg_graph.proofs.labels.Labels.is_clear.Given as goal
 
 -- none was found in front of the place

@@ -1,5 +1,5 @@
 use Rattle.std.proofs.Common.{◌≡◌, ◌<◌, ℕ, false, get_or}
-use Rattle.tg_graph.specs.Sets.{is_empty_set, nothing}
+use Rattle.tg_names.specs.Sets.{is_empty_set, nothing}
 use Rattle.tg_graph.proofs.labels.Labels.is_full.Given as goal
 
 -- none was missing in front of the place

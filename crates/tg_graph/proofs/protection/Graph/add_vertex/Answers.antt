@@ -1,5 +1,5 @@
 use Rattle.std.proofs.Common.{◌∙◌, sym, ap, subst, ◌++◌, ◌∷◌, []}
-use Rattle.tg_graph.specs.Rows.{IsGraph, is_known}
+use Rattle.tg_rows.specs.Rows.{IsGraph, is_known}
 use Rattle.tg_graph.specs.GraphOf.{graph_of}
 use Rattle.tg_graph.proofs.Graphs.{graph-pushed, is_graph-new_vertex}
 use Rattle.tg_graph.proofs.Drafts.{put-new}

@@ -1,6 +1,6 @@
 use Rattle.std.proofs.Common.{◌∙◌, sym, ap, subst, bytes_eq, ◌++◌, ◌∷◌, []}
 use Rattle.std.specs.List.{list_any}
-use Rattle.tg_graph.specs.Rows.{IsGraph, is_known}
+use Rattle.tg_rows.specs.Rows.{IsGraph, is_known}
 use Rattle.tg_graph.specs.GraphOf.{graph_of}
 use Rattle.tg_graph.specs.Rules.{with_rights, with_vertex}
 use Rattle.tg_graph.proofs.Graphs.{alters, graph-creates, is_graph-creates, keys-changed}

@@ -1,5 +1,5 @@
 use Rattle.std.proofs.Common.{◌∙◌, sym, ap, subst}
-use Rattle.tg_graph.specs.Rows.{IsGraph, is_known}
+use Rattle.tg_rows.specs.Rows.{IsGraph, is_known}
 use Rattle.tg_graph.specs.GraphOf.{graph_of}
 use Rattle.tg_graph.specs.Rules.{with_rights}
 use Rattle.tg_graph.proofs.Graphs.{alters, graph-adds, is_graph-adds}

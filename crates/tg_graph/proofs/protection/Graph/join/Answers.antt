@@ -2,13 +2,13 @@ use Rattle.std.proofs.Common.{◌≡◌, ◌∙◌, sym, ap, subst, MatchBool, n
 use Rattle.std.specs.Prelude.{slice_get}
 use Rattle.std.specs.Map.{keys_of}
 use Rattle.indexmap.specs.Layout.{set_value_at}
-use Rattle.tg_graph.specs.Rows.{is_known, IsGraph, Adds}
+use Rattle.tg_rows.specs.Rows.{is_known, IsGraph, Adds}
 use Rattle.tg_graph.specs.GraphOf.{graph_of}
 use Rattle.tg_graph.specs.Rules.{with_rights}
-use Rattle.tg_graph.specs.Sets.{is_empty_set}
+use Rattle.tg_names.specs.Sets.{is_empty_set}
 use Rattle.tg_graph.specs.Additions.{label_between}
 use Rattle.tg_graph.proofs.RowsOf.{empty-between}
-use Rattle.tg_graph.proofs.Rows.{on_err_from}
+use Rattle.tg_rows.proofs.Rows.{on_err_from}
 use Rattle.tg_graph.proofs.Graphs.{joins-found, same-found, graph-joined, is_graph-joined}
 use Rattle.tg_graph.proofs.TakenOver.{row-at, set_value-at}
 use Rattle.tg_graph.proofs.protection.Graph.join.Goals as goal

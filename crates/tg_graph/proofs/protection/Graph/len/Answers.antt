@@ -1,5 +1,5 @@
 use Rattle.std.proofs.Common.{subst}
-use Rattle.tg_graph.specs.Rows.{IsGraph}
+use Rattle.tg_rows.specs.Rows.{IsGraph}
 use Rattle.tg_graph.proofs.Graphs.{well_formed}
 use Rattle.tg_graph.proofs.protection.Graph.len.Goals as goal
 

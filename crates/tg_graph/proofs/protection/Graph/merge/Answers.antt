@@ -1,6 +1,6 @@
 use Rattle.std.proofs.Common.{◌∙◌, sym, ap, subst, length, arith, bytes_eq}
 use Rattle.indexmap.specs.IndexMap.{insert_all}
-use Rattle.tg_graph.specs.Rows.{IsGraph}
+use Rattle.tg_rows.specs.Rows.{IsGraph}
 use Rattle.tg_graph.specs.Drafts.{Fits}
 use Rattle.tg_graph.proofs.Drafts.{whole-graph, length-laid}
 use Rattle.tg_graph.proofs.protection.Graph.merge.Goals as goal

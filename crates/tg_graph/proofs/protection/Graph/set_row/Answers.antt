@@ -2,7 +2,7 @@ use Rattle.std.proofs.Common.{◌<◌, [], sym, ap, subst, ◌∙◌, length, ge
 use Rattle.std.specs.Map.{keys_of}
 use Rattle.std.proofs.lemmas.List.{length-map}
 use Rattle.std.proofs.lemmas.Option.{slice_get-get_or}
-use Rattle.tg_graph.specs.Rows.{IsGraph, IsRow, is_known, is_target}
+use Rattle.tg_rows.specs.Rows.{IsGraph, IsRow, is_known, is_target}
 use Rattle.tg_graph.proofs.BuiltGraphs.{is_graph-settled}
 use Rattle.tg_graph.proofs.protection.Graph.set_row.Goals as goal
 

@@ -1,7 +1,7 @@
 use Rattle.std.proofs.Common.{◌≡◌, sym, ap, subst, ◌∙◌, length, map, arith, bytes_eq}
 use Rattle.std.specs.Map.{keys_of}
 use Rattle.indexmap.specs.IndexMap.{insert_all}
-use Rattle.tg_graph.specs.Rows.{IsGraph}
+use Rattle.tg_rows.specs.Rows.{IsGraph}
 use Rattle.tg_graph.specs.Drafts.{taken_over}
 use Rattle.tg_graph.specs.TakenRows.{entry_of}
 use Rattle.tg_graph.proofs.TakenOver.{graph-taken, length-taken}

@@ -1,9 +1,9 @@
 use Rattle.std.proofs.Common.{◌∙◌, sym, ap, subst, slice_get}
 use Rattle.std.specs.Map.{keys_of}
-use Rattle.tg_graph.specs.Rows.{Entries, IsGraph}
+use Rattle.tg_rows.specs.Rows.{Entries, IsGraph}
 use Rattle.tg_graph.specs.GraphOf.{graph_of}
 use Rattle.tg_graph.specs.Rules.{without_rights}
-use Rattle.tg_graph.proofs.Rows.{on_err_from}
+use Rattle.tg_rows.proofs.Rows.{on_err_from}
 use Rattle.tg_graph.proofs.Graphs.{alters, changes-found, same-found, graph-takes, is_graph-takes}
 use Rattle.tg_graph.proofs.TakenOver.{row-at, set_value-at}
 use Rattle.tg_graph.proofs.protection.Graph.withdraw.Goals as goal

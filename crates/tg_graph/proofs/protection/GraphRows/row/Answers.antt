@@ -3,7 +3,7 @@ use Rattle.std.specs.Option.{option_map}
 use Rattle.std.specs.Map.{keys_of, lookup}
 use Rattle.std.proofs.lemmas.Option.{none-some, slice_get-map}
 use Rattle.std.proofs.lemmas.Map.Made.{is_some-lookup}
-use Rattle.tg_graph.specs.Rows.{Edges, Entries}
+use Rattle.tg_rows.specs.Rows.{Edges, Entries}
 use Rattle.tg_graph.proofs.TakenOver.{row-at}
 use Rattle.tg_graph.proofs.protection.GraphRows.row.Goals as goal
 

@@ -1,6 +1,6 @@
 use Rattle.std.proofs.Common.{None, [], ap, ◌∙◌}
 use Rattle.tg_graph.specs.GraphOf.{graph_of}
-use Rattle.tg_graph.proofs.Sets.{member-nothing}
+use Rattle.tg_names.proofs.Sets.{member-nothing}
 use Rattle.tg_text.proofs.graph_text.GraphItems.nothing.Goals as goal
 
 pub returns : goal.returns

@@ -1,5 +1,0 @@
-use Rattle.tg_graph.proofs.NameLaws.{prefix_first, difference_decides}
-use Rattle.tg_graph.proofs.laws.names_are_ordered_by_bytes.Goals as goal
-
-pub returns : goal.returns
-returns c = record { prefix = prefix_first; difference = difference_decides }

@@ -1,5 +1,0 @@
-use Rattle.tg_graph.proofs.RightsWords.{rights_words_exactly}
-use Rattle.tg_graph.proofs.laws.rights_words_are_exact.Goals as goal
-
-pub returns-clause-read : goal.returns-clause-read
-returns-clause-read c = rights_words_exactly

@@ -1,6 +1,0 @@
-use Rattle.std.proofs.Common.{take}
-use Rattle.tg_graph.specs.EdgeLists.{NoneHas}
-use Rattle.tg_graph.proofs.listed_edges.label_with_number.Given as goal
-
-abbrev pub invariant-loop-edge : goal.invariant-loop-edge
-invariant-loop-edge l = NoneHas (take l.edge-index l.edges) l.number

@@ -1,6 +1,0 @@
-use Rattle.std.proofs.Common.{◌≡◌, slice_get, drop}
-use Rattle.tg_graph.specs.Letters.{letters_among}
-use Rattle.tg_graph.proofs.right_sets.Rights.letter_among.Given as goal
-
-abbrev pub invariant-loop-right : goal.invariant-loop-right
-invariant-loop-right l = slice_get (letters_among l.self l.rights) l.index ≡ slice_get (letters_among l.self (drop l.right-index l.rights)) l.left

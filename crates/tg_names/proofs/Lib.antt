@@ -1,0 +1,9 @@
+pub mod Sets
+pub mod Letters
+pub mod Digits
+pub mod NameLaws
+pub mod RightsWords
+pub mod NameLanes
+pub mod NameNumbers
+pub mod NameBytes
+pub mod NameFronts

@@ -1,0 +1,5 @@
+use Rattle.tg_rows.proofs.Rows.{row_none}
+use Rattle.tg_rows.proofs.row.Row.new.Goals as goal
+
+pub invariant_of-result : goal.invariant_of-result
+invariant_of-result c = row_none _ c.new.ensures

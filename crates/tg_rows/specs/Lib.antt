@@ -1,0 +1,4 @@
+pub mod Rows
+pub mod Halves
+pub mod EdgeForms
+pub mod EdgeLists
