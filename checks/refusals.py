@@ -7,8 +7,9 @@ second, and so on until a run asks for less. It has to pass each time. A test wh
 later one, and so on: what it asks once it is set up has to be answered without memory.
 
 The tests are the programs crates/NAME/out/NAME_tests, which `rt ci` and `rt test` leave; where one
-is missing or older than the sources, `rt test` makes it. The requests are refused by refuse.c,
-which the compiler of the toolchain builds.
+is missing or older than the sources, `rt test` makes it. A crate that has no tests is passed over:
+those of the library tg_text, say, are in the crate tg_text_tests. The requests are refused by
+refuse.c, which the compiler of the toolchain builds.
 """
 import argparse
 import concurrent.futures
@@ -36,17 +37,37 @@ def crates_below():
     return {left.split()[0]: right.split() for left, _, right in halves if left.split()}
 
 
+def sources_of(crate):
+    """The files of the crate's code: none where the crate is the toolchain's."""
+    for folder, _, files in os.walk(f"{TOP}/crates/{crate}/src"):
+        yield from (f"{folder}/{it}" for it in files)
+
+
+def has_tests(crate):
+    """Whether the crate's code has a test."""
+    for path in sources_of(crate):
+        with open(path, encoding="utf-8") as text:
+            if "#[test]" in text.read():
+                return True
+    return False
+
+
+def with_all_below(crate):
+    """The crate and all that it stands on, at whatever depth."""
+    below, found = crates_below(), [crate]
+    for name in found:
+        found += [it for it in below.get(name, []) if it not in found]
+    return found
+
+
 def is_built(crate):
     """Whether the crate has a test program that is younger than the code that it is made of."""
     program = f"{TOP}/crates/{crate}/out/{crate}_tests"
     if not os.path.isfile(program):
         return False
     built = os.path.getmtime(program)
-    for name in [crate, *crates_below()[crate]]:
-        for folder, _, files in os.walk(f"{TOP}/crates/{name}/src"):
-            if any(os.path.getmtime(f"{folder}/{it}") > built for it in files):
-                return False
-    return True
+    sources = (path for name in with_all_below(crate) for path in sources_of(name))
+    return all(os.path.getmtime(path) <= built for path in sources)
 
 
 def test_program(crate):
@@ -122,7 +143,10 @@ def words():
 
 def main():
     asked = words()
-    crates = asked.crates or list(crates_below())
+    crates = asked.crates or [it for it in crates_below() if has_tests(it)]
+    for crate in crates:
+        if not has_tests(crate):
+            sys.exit(f"refusals: {crate} has no tests")
     programs = [(crate, test_program(crate)) for crate in crates]
     began, failed, requests = time.monotonic(), 0, 0
     with tempfile.TemporaryDirectory(prefix="refusals-") as folder:

@@ -20,10 +20,3 @@ pub use answers::{JournalFault, MeetFault, Next, Put};
 pub use entry::Entry;
 pub use journal::Journal;
 pub use pass::{Front, Pass};
-
-#[cfg(test)]
-mod famine_tests;
-#[cfg(test)]
-mod memory_tests;
-#[cfg(test)]
-mod tests;

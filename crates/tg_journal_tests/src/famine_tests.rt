@@ -4,9 +4,9 @@
 ghost use Rattle.std.specs.Prelude.{◌≡◌};
 
 use crate::tests::{Mark, finds};
-use crate::{Front, Journal, JournalFault, Next, Pass, Put};
 use std::process::Abort;
 use std::test::Fail;
+use tg_journal::{Front, Journal, JournalFault, Next, Pass, Put};
 
 // What the first pass has seen, and the second finds, where the one cell is set.
 fn read(

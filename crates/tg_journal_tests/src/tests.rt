@@ -1,11 +1,11 @@
 ghost use Rattle.std.specs.Prelude.{◌≡◌, IfOk};
 
 use crate::memory_tests::{put_after_refusal, started};
-use crate::{Entry, Front, Journal, JournalFault, Next, Pass, Put};
 use std::alloc::{AllocError, Global};
 use std::process::Abort;
 use std::test::Fail;
 use std::thread;
+use tg_journal::{Entry, Front, Journal, JournalFault, Next, Pass, Put};
 
 // Memory runs out for a copy of the record with this number.
 const NO_COPY: u32 = 100;

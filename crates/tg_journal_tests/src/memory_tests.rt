@@ -4,10 +4,10 @@ ghost use Rattle.std.specs.Prelude.{◌≡◌, ◌<◌, ◌+◌, ℕ, IfOk, Some
 ghost use Rattle.tg_journal.specs.Pass.{fresh};
 
 use crate::tests::Mark;
-use crate::{Journal, JournalFault, Pass, Put};
 use std::alloc::{AllocError, Global};
 use std::process::Abort;
 use std::test::Fail;
+use tg_journal::{Journal, JournalFault, Pass, Put};
 
 // A row of two cells with so many passes.
 pub(crate) fn started(
