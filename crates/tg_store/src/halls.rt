@@ -258,8 +258,7 @@ impl Hall {
     }
 
     /// Whether some open session knows something that takes memory.
-    #[cfg(test)]
-    pub(crate) fn knows_any(&self) -> bool {
+    pub fn knows_any(&self) -> bool {
         self.seats.iter().any(|seat| seat.knows_any())
     }
 

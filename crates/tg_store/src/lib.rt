@@ -8,38 +8,18 @@
 //! `abort` look at none. This is how the code is written; no contract says it.
 #![tactic(auto)]
 
-#[cfg(test)]
-mod answer_tests;
 mod answers;
-#[cfg(test)]
-mod desks;
 mod events;
-#[cfg(test)]
-mod famine_tests;
 mod halls;
 mod knowing;
-#[cfg(test)]
-mod memory_tests;
 mod outcomes;
 mod records;
 mod replays;
 mod running_seats;
 mod running_sessions;
-#[cfg(test)]
-mod scripts;
 mod seats;
 mod spoilers;
-#[cfg(test)]
-mod store_famine_tests;
-#[cfg(test)]
-mod store_memory_tests;
-#[cfg(test)]
-mod store_tests;
 mod stores;
-#[cfg(test)]
-mod test_helpers;
-#[cfg(test)]
-mod tests;
 mod trails;
 mod weighing;
 

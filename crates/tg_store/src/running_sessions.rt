@@ -100,8 +100,7 @@ impl Session {
     }
 
     /// Whether it knows something that takes memory.
-    #[cfg(test)]
-    pub(crate) fn knows_any(&self) -> bool {
+    pub fn knows_any(&self) -> bool {
         self.staged.known.knows_any()
     }
 

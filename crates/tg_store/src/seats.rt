@@ -212,8 +212,7 @@ impl SeatState {
     }
 
     /// Whether the open session knows something that takes memory.
-    #[cfg(test)]
-    pub(crate) fn knows_any(&self) -> bool {
+    pub fn knows_any(&self) -> bool {
         match &self.session {
             Some(session) => session.known.knows_any(),
             None => false,

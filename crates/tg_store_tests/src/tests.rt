@@ -1,8 +1,5 @@
 // What seats do to one another: the same rows at a hall and at a store.
-use crate::Store;
 use crate::desks::{Desk, opened};
-use crate::events::StoreFault;
-use crate::halls::Hall;
 use crate::scripts::Deed::{
     Abort, Begin, Commit, Create, Holds, Learn, PutOnce, Remove, Share, Take,
 };
@@ -18,6 +15,7 @@ use std::alloc::Global;
 use std::process;
 use std::test::Fail;
 use tg_graph::{Graph, MOST_VERTICES, Right};
+use tg_store::{Hall, Store, StoreFault};
 
 // The rows are played at a hall of two seats and eight cells over the graph. The replay of all
 // records has so many vertices, and these labels.

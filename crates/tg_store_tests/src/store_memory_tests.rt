@@ -5,15 +5,15 @@ ghost use Rattle.tg_store.specs.Running.{IsOf};
 
 use crate::desks::opened;
 use crate::scripts::{Deed, name, set, step_of};
-use crate::{
-    Answered, BeginFault, Begun, CommitFault, Committed, Record, Seat, Session, Store, StoreFault,
-    StoreMeetFault,
-};
 use std::alloc::{AllocError, Global};
 use std::process::Abort;
 use std::test::Fail;
 use tg_graph::{Graph, Refusal, Reply, Right};
 use tg_journal::Front;
+use tg_store::{
+    Answered, BeginFault, Begun, CommitFault, Committed, Record, Seat, Session, Store, StoreFault,
+    StoreMeetFault,
+};
 
 // The vertices a, b, c and d. a has t over b, and b has r over c.
 fn four(rt: &impl Abort, alloc: Global) -> Option<Graph> {

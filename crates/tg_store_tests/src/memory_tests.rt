@@ -1,7 +1,5 @@
 // Each test passes whichever one request for memory is refused, which `make refusals` tries. Where a
 // call was refused memory, its second try has it.
-use crate::events::{HallFault, HallReply, StoreFault};
-use crate::halls::Hall;
 use crate::scripts::Deed::{Begin, Commit, Create, Learn, PutOnce, Share};
 use crate::scripts::Word::{Did, Done, Learned, No, Put, Yes};
 use crate::scripts::{Row, act_of, event_of, name, reply_of};
@@ -10,6 +8,7 @@ use std::alloc::{AllocError, Global};
 use std::process::Abort;
 use std::test::Fail;
 use tg_graph::{Graph, Right};
+use tg_store::{Hall, HallFault, HallReply, StoreFault};
 
 // The vertex a.
 fn one(rt: &impl Abort, alloc: Global) -> Graph {

@@ -6,11 +6,11 @@ ghost use Rattle.tg_store.specs.Running.{IsOf};
 use crate::desks::{lonely, opened};
 use crate::scripts::name;
 use crate::test_helpers::graph;
-use crate::{Begun, Committed, Seat, Session, Store, StoreFault};
 use std::alloc::Global;
 use std::process::Abort;
 use std::test::Fail;
 use tg_graph::{Graph, Right};
+use tg_store::{Begun, Committed, Seat, Session, Store, StoreFault};
 
 // a has t over b, and b has r over c.
 fn three(rt: &impl Abort, alloc: Global) -> Result<Graph, Fail> {

@@ -5,13 +5,14 @@ ghost use Rattle.tg_store.specs.Acts.{IsStageableAct};
 ghost use Rattle.tg_store.specs.Running.{IsOf};
 ghost use Rattle.tg_store.specs.StepWords.{IsNamedStep};
 
-use crate::events::{HallFault, HallReply, StoreFault};
 use crate::scripts::{Row, act_of, reply_of};
-use crate::{Begun, CommitFault, Committed, Seat, Session, Store};
 use std::alloc::{AllocError, Global};
 use std::mem;
 use std::process::Abort;
 use tg_graph::{Act, Graph, Step};
+use tg_store::{
+    Begun, CommitFault, Committed, HallFault, HallReply, Seat, Session, Store, StoreFault,
+};
 
 /// A seat that is free, or its session.
 #[derive(Drop)]

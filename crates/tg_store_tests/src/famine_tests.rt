@@ -1,8 +1,6 @@
 // What a hall does without memory. Each test passes when every request for memory from some one on is
 // refused, which `make refusals` tries: it ends early or with an error where it can't be set up, and
 // else everything is answered.
-use crate::events::{HallFault, HallReply};
-use crate::halls::Hall;
 use crate::scripts::Deed::{Abort, Begin, Learn, PutOnce, Remove, Share, Take};
 use crate::scripts::Word::{
     AlreadyOpen, Changed, Did, Done, JournalFull, No, NoSeat, NotOpen, Nothing, Put,
@@ -12,6 +10,7 @@ use crate::test_helpers::{acts, events, hall_of_three};
 use std::process;
 use std::test::Fail;
 use tg_graph::Right;
+use tg_store::{Hall, HallFault, HallReply};
 
 // Whether the events are answered so, until one is refused for want of memory.
 fn is_set_up(rt: &impl process::Abort, hall: &mut Hall, rows: &[Row]) -> bool {

@@ -7,11 +7,11 @@ use crate::scripts::Deed::{Abort, Begin, Commit, Holds, Share, Take};
 use crate::scripts::Word::{Did, Done, No, Put, Yes};
 use crate::scripts::{name, step_of};
 use crate::test_helpers::{graph, shows};
-use crate::{Begun, Committed, Seat, Session, Store};
 use std::alloc::{AllocError, Global};
 use std::test::Fail;
 use std::{process, thread};
 use tg_graph::{Graph, Name, Reply, Right, Rights, Rule, Step};
+use tg_store::{Begun, Committed, Seat, Session, Store};
 
 // A store of four cells, over the vertices a, b and c, where the first seat has put that a takes r
 // over c from b.

@@ -1,10 +1,10 @@
 //! What the tests share: graphs, halls, and tables of what happens there.
-use crate::halls::Hall;
 use crate::scripts::{Row, act_of, event_of, name, reply_of, set};
 use std::alloc::Global;
 use std::process::Abort;
 use std::test::Fail;
 use tg_graph::{Graph, Name, Right};
+use tg_store::Hall;
 
 /// The graph with a vertex for each letter, and an edge for each three letters: source, target and
 /// right.

@@ -6,9 +6,9 @@ ghost use Rattle.tg_store.specs.Acts.{IsStageableAct};
 ghost use Rattle.tg_store.specs.StepWords.{IsNamedStep};
 ghost use Rattle.tg_store.specs.Worlds.{IsStageable};
 
-use crate::events::{Event, HallFault, HallReply};
 use std::process::Abort;
 use tg_graph::{Act, Name, Refusal, Reply, Right, Rights, Rule, Step};
+use tg_store::{Event, HallFault, HallReply};
 
 /// What a seat does. Vertices are named by letters, and by the digit the vertices v0 to v9.
 #[derive(Clone, Copy)]
