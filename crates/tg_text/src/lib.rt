@@ -2,33 +2,19 @@
 #![tactic(auto)]
 
 mod canonical;
-#[cfg(test)]
-mod famine_tests;
-#[cfg(test)]
-mod fault_tests;
 mod faults;
 mod graph_text;
 pub mod laws;
 mod limits;
 mod lines;
-#[cfg(test)]
-mod memory_tests;
 mod plain_lines;
-#[cfg(test)]
-mod policy_tests;
 mod policy_text;
 mod reading;
 mod rule_text;
 mod script_text;
 mod spelling;
-#[cfg(test)]
-mod test_helpers;
-#[cfg(test)]
-mod tests;
 mod versions;
 mod words;
-#[cfg(test)]
-mod writing_tests;
 
 pub use canonical::{names_in_order, write_graph, write_graph_behind};
 pub use faults::{TextFault, TextKind};

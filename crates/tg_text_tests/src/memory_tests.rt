@@ -1,13 +1,13 @@
 // Each test passes whichever one request for memory is refused, which `make refusals` tries. Where a
 // call was refused memory, its second try has it.
-use crate::{
-    TextFault, TextKind, append_number, append_reply, names_in_order, read_graph, read_policy,
-    read_rule, read_rules, read_script, write_graph, write_policy, write_reply, write_rule,
-};
 use std::alloc::{AllocError, Global};
 use std::process::Abort;
 use std::test::Fail;
 use tg_graph::{Graph, Reply};
+use tg_text::{
+    TextFault, TextKind, append_number, append_reply, names_in_order, read_graph, read_policy,
+    read_rule, read_rules, read_script, write_graph, write_policy, write_reply, write_rule,
+};
 
 const GRAPH: &[u8] = b"vertex a\nvertex b\nedge a b tg\n";
 

@@ -1,13 +1,13 @@
 // What is written, where there is memory enough.
 use crate::test_helpers::{rules, vertices};
-use crate::{
-    append_number, append_reply, append_rule, names_in_order, read_graph, write_graph,
-    write_graph_behind, write_reply, write_rule,
-};
 use std::alloc::{AllocError, Global};
 use std::process::Abort;
 use std::test::Fail;
 use tg_graph::{Name, Refusal, Reply, Right, Rights};
+use tg_text::{
+    append_number, append_reply, append_rule, names_in_order, read_graph, write_graph,
+    write_graph_behind, write_reply, write_rule,
+};
 
 fn replies(rt: &impl Abort, alloc: Global, reply: Reply, text: &[u8]) -> Result<(), AllocError> {
     let written = write_reply(alloc, &reply)?;

@@ -1,10 +1,10 @@
 // What is read, where there is memory enough.
 use crate::test_helpers::{repeated, rules};
-use crate::{TextFault, cut_line, cut_word, read_graph, read_rule, read_rules, read_script};
 use std::alloc::{AllocError, Global};
 use std::process::Abort;
 use std::test::Fail;
 use tg_graph::{Act, Name, Right, Rights, Step};
+use tg_text::{TextFault, cut_line, cut_word, read_graph, read_rule, read_rules, read_script};
 
 #[test]
 fn a_line_and_its_words(rt: HostRuntime) {

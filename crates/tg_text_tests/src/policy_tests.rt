@@ -1,12 +1,12 @@
 // The texts of policies, where there is memory enough.
 use crate::test_helpers::repeated;
-use crate::{
-    Claim, Operand, PolicyLine, TextFault, TextKind, read_graph, read_policy, write_policy,
-};
 use std::alloc::{AllocError, Global};
 use std::process::Abort;
 use std::test::Fail;
 use tg_graph::{Graph, Name, NameFault, Right, Rights};
+use tg_text::{
+    Claim, Operand, PolicyLine, TextFault, TextKind, read_graph, read_policy, write_policy,
+};
 
 const GRAPH: &[u8] = b"vertex a\nvertex b\nvertex abcdefghijklmnop\n";
 

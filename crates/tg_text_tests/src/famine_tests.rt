@@ -2,12 +2,12 @@
 // which `make refusals` tries: it ends with an error where it can't be set up, and else everything
 // is answered.
 use crate::test_helpers::rules;
-use crate::{
+use std::test::Fail;
+use tg_graph::{Reply, Right, Rights};
+use tg_text::{
     LONGEST_NUMBER, LONGEST_REPLY, LONGEST_RULE, TextKind, append_number, append_reply,
     append_rule, cut_line, cut_word, read_rule,
 };
-use std::test::Fail;
-use tg_graph::{Reply, Right, Rights};
 
 #[test]
 fn lines_and_words(rt: HostRuntime) {

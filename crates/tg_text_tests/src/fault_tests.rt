@@ -1,9 +1,9 @@
 // Each kind of fault on each text that has it, where there is memory enough.
 use crate::test_helpers::{repeated, vertices};
-use crate::{TextFault, TextKind, read_graph, read_rule, read_rules, read_script};
 use std::alloc::{AllocError, Global};
 use std::process::Abort;
 use std::test::Fail;
+use tg_text::{TextFault, TextKind, read_graph, read_rule, read_rules, read_script};
 
 // A line that is one byte too long.
 const LONG: [u8; 257] = [b'#'; 257];
