@@ -118,8 +118,7 @@ impl SharingIndex {
     }
 
     /// Whether it has listed the edges.
-    #[cfg(test)]
-    pub(crate) fn has_listed(&self) -> bool
+    pub fn has_listed(&self) -> bool
         ensures { result ≡ is_some self.now.listed }
     {
         self.edges.is_some()

@@ -1,13 +1,13 @@
-//! Derivations as this crate first found them: a search lists all links of the graph before it begins, and
+//! Derivations as `tg_analysis` first found them: a search lists all links of the graph before it begins, and
 //! finds the ends of edges by their names. Which chain of several shortest ones a derivation takes is fixed
 //! by no contract, so tests compare it with the one that is found here.
 //!
 //! The code is as it was, but for its contracts. Without these no proof sees that a search ends or that a
 //! number stays small, so its open loops go over numbers, and sums stop at the highest number.
 
-use crate::met::Met;
-use crate::questions::AskFault;
+use indexmap::IndexMap;
 use std::alloc::{AllocError, Global};
+use tg_analysis::AskFault;
 use tg_graph::{Graph, MOST_VERTICES, Name, Right, Rights, Rule};
 
 // For each vertex of a graph, by position, the positions of the vertices that are linked to it.
@@ -85,6 +85,56 @@ impl Links {
             self.add_edge(graph, position, place)?;
         }
         Ok(())
+    }
+}
+
+// The vertices that a search has met, in the order in which it met them. With each stands the place of the
+// one by which it was first met; the place of the first says nothing.
+#[derive(Drop)]
+struct Met {
+    places: IndexMap<Name, usize>,
+}
+
+impl Met {
+    // A search that has met the vertex from which it starts.
+    fn from(alloc: Global, start: Name) -> Result<Met, AllocError> {
+        let mut met = Met {
+            places: IndexMap::new(alloc),
+        };
+        met.places.insert(start, 0)?;
+        Ok(met)
+    }
+
+    // The vertex at a place, with the place of the one by which it was first met.
+    fn at(&self, place: usize) -> Option<(Name, usize)> {
+        match self.places.get_index(place) {
+            Some((name, from)) => Some((*name, *from)),
+            None => None,
+        }
+    }
+
+    // Whether a vertex was met.
+    fn has(&self, name: Name) -> bool {
+        self.places.contains_key(&name)
+    }
+
+    // Meets a vertex by the one at a place; a vertex that was met before stays as it is.
+    fn meet(&mut self, name: Name, from: usize) -> Result<(), AllocError> {
+        if self.has(name) {
+            return Ok(());
+        }
+        self.places.insert(name, from)?;
+        Ok(())
+    }
+
+    // The vertex by which the one at a place was first met, with its place; none for the first.
+    fn back(&self, place: usize) -> Option<(Name, usize)> {
+        if place == 0 {
+            return None;
+        }
+        let (_, from) = self.at(place)?;
+        let (name, _) = self.at(from)?;
+        Some((name, from))
     }
 }
 

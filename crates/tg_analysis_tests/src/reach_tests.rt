@@ -1,12 +1,12 @@
 // Who can come to have rights over a vertex, and over whom a vertex can come to have which: values worked by
 // hand from the definitions.
-use crate::questions::AskFault;
 use crate::test_answers::{reach_of, who_can};
 use crate::test_graphs::{graph, name, numbered, set, word};
 use bitflags::Flags;
 use std::alloc::Global;
 use std::process::Abort;
 use std::test::Fail;
+use tg_analysis::AskFault;
 use tg_graph::{Graph, Name, Rights};
 
 // Those who can come to have the rights over y, by position, have a 1.

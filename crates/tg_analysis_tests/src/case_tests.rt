@@ -3,12 +3,11 @@ ghost use Rattle.std.specs.Prelude.{IsTrue};
 ghost use Rattle.tg_graph.specs.GraphOf.{graph_of};
 ghost use Rattle.tg_analysis.specs.Cases.{ArePlaces, AreVertices};
 
-use crate::case_index::CaseIndex;
-use crate::cases::Case;
 use crate::test_answers::shares;
 use crate::test_graphs::{graph, name, right, set, word};
 use std::alloc::{AllocError, Global};
 use std::process::Abort;
+use tg_analysis::{Case, CaseIndex};
 use tg_graph::{Graph, Name, Right, Rights};
 
 // The names of a list.

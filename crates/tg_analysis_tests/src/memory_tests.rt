@@ -4,13 +4,6 @@ ghost use Rattle.tg_names.specs.Sets.{IsNamed};
 ghost use Rattle.tg_analysis.specs.ByTarget.{IsIndexOf};
 
 use crate::case_tests::{Kind, found};
-use crate::cases::Case;
-use crate::gates::OpenGate;
-use crate::numbering::Islands;
-use crate::questions::AskFault;
-use crate::sharing_index::SharingIndex;
-use crate::table_faults::TableFault;
-use crate::tables::PairTable;
 use crate::test_answers::{
     all_derived, assert_numbers, assert_table, derived, islands_of, reach_of, shares, shares_all,
     table_of, who_can,
@@ -20,6 +13,7 @@ use std::alloc::{AllocError, Global};
 use std::process::Abort;
 use std::test::Fail;
 use std::thread::Threads;
+use tg_analysis::{AskFault, Case, Islands, OpenGate, PairTable, SharingIndex, TableFault};
 use tg_graph::{EdgeFault, Graph, Name, Right, Rights, VertexFault};
 
 fn added(graph: &mut Graph, name: Name) -> Result<(), VertexFault> {

@@ -1,8 +1,8 @@
-use crate::questions::AskFault;
 use crate::test_answers::{all_derived, carry_out_all};
 use crate::test_graphs::{assert_rules, graph, name, numbered, set, word};
 use std::alloc::Global;
 use std::process::Abort;
+use tg_analysis::AskFault;
 use tg_graph::{Graph, Name, Right, Rights};
 
 // The rights, x and y of a question: "a c rw" is whether a can come to have r and w over c.

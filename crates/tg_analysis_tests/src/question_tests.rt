@@ -1,10 +1,10 @@
-use crate::questions::AskFault;
 use crate::test_answers::{derived, shares, shares_all};
 use crate::test_graphs::{assert_rules, graph, name, numbered, right, set, word};
 use bitflags::Flags;
 use std::alloc::{AllocError, Global};
 use std::process::Abort;
 use std::test::Fail;
+use tg_analysis::AskFault;
 use tg_graph::{Graph, Name, Right, Rights};
 
 fn assert_shares(

@@ -2,18 +2,14 @@
 // which `make refusals` tries: it ends with an error where it can't be set up, and else everything
 // is answered.
 use crate::case_tests::{Kind, found};
-use crate::cases::Case;
-use crate::gates::{Gate, OpenGate};
 use crate::memory_tests::three;
-use crate::questions::AskFault;
-use crate::sharing_index::SharingIndex;
-use crate::table_faults::TableFault;
 use crate::test_answers::{
     all_derived, assert_no_table, assert_numbers, assert_table, derived, islands_of, reach_of,
     shares, shares_all, table_of, who_can,
 };
 use bitflags::Flags;
 use std::test::Fail;
+use tg_analysis::{AskFault, Case, Gate, OpenGate, SharingIndex, TableFault};
 use tg_graph::{Name, Right, Rights};
 
 #[test]

@@ -1,10 +1,9 @@
-use crate::links::Links;
-use crate::numbering::Islands;
 use crate::test_answers::{assert_numbers, islands_of};
 use crate::test_graphs::{graph, most_vertices, name};
 use std::alloc::{AllocError, Global};
 use std::process::Abort;
 use std::test::Fail;
+use tg_analysis::{Islands, Links};
 use tg_graph::Graph;
 
 fn links_of(alloc: Global, graph: &Graph) -> Result<Links, AllocError> {

@@ -1,11 +1,11 @@
 // Which of several shortest chains a derivation takes is as it was when each search listed all links first.
 use crate::listed_chains::{listed_derivation, listed_derivation_all};
 use crate::made_graphs::{Chance, HELD, Plan, made_graph, made_names};
-use crate::questions::AskFault;
 use crate::test_answers::{all_derived, derived};
 use crate::test_graphs::set;
 use std::alloc::Global;
 use std::process::Abort;
+use tg_analysis::AskFault;
 use tg_graph::{Graph, Name, Right, Rights, Rule};
 
 fn are_same(found: &Option<Vec<Rule>>, listed: &Option<Vec<Rule>>) -> bool {

@@ -1,17 +1,12 @@
 //! Assertions of what islands, tables and questions answer. They tell nothing of what they saw, so
 //! the check of a test that makes many of them stays short.
-use crate::answers::{can_share, can_share_all};
-use crate::derivations::{derivation, derivation_all};
-use crate::gates::{Gate, OpenGate};
-use crate::joining::islands;
-use crate::numbering::Islands;
-use crate::questions::AskFault;
-use crate::reaching::{reach, who};
-use crate::table_faults::TableFault;
-use crate::tables::{PairTable, pair_table};
 use std::alloc::{AllocError, Global};
 use std::process::Abort;
 use std::thread::Threads;
+use tg_analysis::{
+    AskFault, Gate, Islands, OpenGate, PairTable, TableFault, can_share, can_share_all, derivation,
+    derivation_all, islands, pair_table, reach, who,
+};
 use tg_graph::laws::accepted_rules_are_run;
 use tg_graph::{Graph, Name, Right, Rights, Rule};
 

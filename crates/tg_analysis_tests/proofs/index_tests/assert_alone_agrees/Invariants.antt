@@ -1,5 +1,5 @@
 use Rattle.tg_analysis.specs.ByTarget.{IsIndexOf}
-use Rattle.tg_analysis.proofs.index_tests.assert_alone_agrees.Given as goal
+use Rattle.tg_analysis_tests.proofs.index_tests.assert_alone_agrees.Given as goal
 
 abbrev pub invariant-loop-pair : goal.invariant-loop-pair
 invariant-loop-pair g l = IsIndexOf l.graph l.index

@@ -1,11 +1,10 @@
 // What an index says of a graph, beside what `can_share` says.
-use crate::questions::AskFault;
-use crate::sharing_index::SharingIndex;
 use crate::test_answers::shares;
 use crate::test_graphs::{graph, name};
 use std::alloc::Global;
 use std::process::Abort;
 use std::test::Fail;
+use tg_analysis::{AskFault, SharingIndex};
 use tg_graph::{Graph, Name, Right};
 
 fn indexed(alloc: Global, graph: &Graph, right: Right, x: Name, y: Name) -> Result<bool, AskFault> {

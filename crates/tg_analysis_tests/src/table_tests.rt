@@ -1,6 +1,3 @@
-use crate::gates::{Gate, OpenGate};
-use crate::table_faults::TableFault;
-use crate::tables::PairTable;
 use crate::test_answers::{assert_no_table, assert_tabled, table_of};
 use crate::test_graphs::{graph, most_vertices, numbered};
 use std::alloc::Global;
@@ -9,6 +6,7 @@ use std::sync::atomic::{AtomicU64, Ordering};
 use std::test::Fail;
 use std::thread;
 use std::thread::Threads;
+use tg_analysis::{Gate, OpenGate, PairTable, TableFault};
 use tg_graph::Graph;
 
 fn five(rt: &impl Abort, alloc: Global) -> Graph {

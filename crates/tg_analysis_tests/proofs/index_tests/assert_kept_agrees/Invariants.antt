@@ -1,5 +1,5 @@
 use Rattle.tg_analysis.specs.ByTarget.{IsIndexOf}
-use Rattle.tg_analysis.proofs.index_tests.assert_kept_agrees.Given as goal
+use Rattle.tg_analysis_tests.proofs.index_tests.assert_kept_agrees.Given as goal
 
 abbrev pub invariant-loop-j : goal.invariant-loop-j
 invariant-loop-j g l = IsIndexOf l.graph l.index
