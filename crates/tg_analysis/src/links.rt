@@ -64,7 +64,7 @@ impl Links {
     }
 
     /// How many links there are: an edge that links stands in the lists of both its ends.
-    pub fn count(&self) -> usize {
+    pub(crate) fn count(&self) -> usize {
         let mut count: usize = 0;
         for near in &self.near {
             count = count.saturating_add(near.len());
@@ -85,7 +85,7 @@ impl Links {
     /// No links between this many vertices.
     ///
     /// The one error is want of memory.
-    pub fn none(alloc: Global, count: usize) -> Result<Links, AllocError>
+    pub(crate) fn none(alloc: Global, count: usize) -> Result<Links, AllocError>
         ensures { IfOk result (λ links. links ≡ replicate count []) }
     {
         let mut near = Vec::with_capacity(alloc, count)?;
@@ -98,7 +98,7 @@ impl Links {
     /// Makes one position a neighbour of another.
     ///
     /// The one error is want of memory.
-    pub fn add(&mut self, position: usize, neighbour: usize) -> Result<(), AllocError>
+    pub(crate) fn add(&mut self, position: usize, neighbour: usize) -> Result<(), AllocError>
         requires { position < length self.old }
         ensures { OnOk result (AddsNeighbour self.old self.new position neighbour) }
     {

@@ -114,7 +114,7 @@ impl SharingIndex {
     pub fn has_found(&self) -> bool
         ensures { result ≡ has_found self.now }
     {
-        self.islands.is_some() || self.edges.is_some()
+        self.islands.is_some() || self.has_listed()
     }
 
     /// Whether it has listed the edges.
@@ -196,7 +196,7 @@ impl SharingIndex {
         if !self.lists_edges {
             return;
         }
-        if self.edges.is_some() || !self.is_paid(graph, self.looks) {
+        if self.has_listed() || !self.is_paid(graph, self.looks) {
             return;
         }
         let count = self.edge_count(graph);
@@ -214,7 +214,7 @@ impl SharingIndex {
         ensures yes { IsTrue result → CanShare (graph_of graph.now) right x y }
         ensures same { self.new ≡ self.old }
     {
-        if self.edges.is_some() || self.edge_count(graph) / LONG_ROWS < graph.len() {
+        if self.has_listed() || self.edge_count(graph) / LONG_ROWS < graph.len() {
             return false;
         }
         let rights = Rights::of(right);
