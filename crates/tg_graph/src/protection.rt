@@ -575,6 +575,24 @@ impl Graph {
         Ok(Graph::of_rows(rows, names, self.alloc))
     }
 
+    /// How many graphs and drafts have the row of the vertex at a position, this one counted, as copies
+    /// share it until one of them changes it; `None` past the last. Of the number nothing is said: a
+    /// contract sees the same row, however many have it.
+    pub fn row_owners(&self, position: usize) -> Option<usize>
+        ensures { is_some result ≡ is_some (slice_get (keys_of self.now) position) }
+    {
+        match self.rows.get_index(position) {
+            Some((_, row)) => Some(row.owners()),
+            None => None,
+        }
+    }
+
+    /// How many have the names that the rows of the graph share, this one counted; `None` where they share
+    /// none. It decides no answer.
+    pub fn name_owners(&self) -> Option<usize> {
+        Some(self.names.as_ref()?.owners())
+    }
+
     /// Takes over the vertices at some positions of another graph, in turn, each with its row: into
     /// the place that it has here, or as the last. The vertices are then those of the other graph.
     /// Rows are shared until they are changed, and no name is looked up where it has the same

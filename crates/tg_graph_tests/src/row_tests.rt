@@ -123,22 +123,18 @@ fn vertices_among_edges_make_the_same_graph(rt: HostRuntime) -> Result<(), Fail>
 
 // Each row of the graph has so many owners.
 fn rows_have_owners(rt: &impl Abort, g: &Graph, owners: usize) {
-    for (_, row) in &g.rows {
-        assert!(rt; row.owners() == owners);
+    for position in 0..g.len() {
+        assert!(rt; g.row_owners(position) == Some(owners));
     }
-}
-
-// How many owners the names have that the rows of the graph share.
-fn owners_of_names(g: &Graph) -> Option<usize> {
-    Some(g.names.as_ref()?.owners())
+    assert!(rt; g.row_owners(g.len()).is_none());
 }
 
 fn copies_apart(rt: &impl Abort, g: &Graph) -> Result<(), Fail> {
-    let owners = owners_of_names(g);
+    let owners = g.name_owners();
     let unshared = g.copy_unshared()?;
     rows_have_owners(rt, g, 1);
     rows_have_owners(rt, &unshared, 1);
-    assert!(rt; owners.is_some() && owners_of_names(g) == owners);
+    assert!(rt; owners.is_some() && g.name_owners() == owners);
     Ok(())
 }
 

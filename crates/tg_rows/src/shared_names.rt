@@ -229,8 +229,7 @@ impl SharedNames {
         })
     }
 
-    /// How many owners the names have.
-    #[cfg(test)]
+    /// How many have the names, this one counted. It decides no answer.
     pub fn owners(&self) -> usize {
         Arc::strong_count(&self.table)
     }

@@ -82,8 +82,7 @@ impl SharedRow {
         })
     }
 
-    /// How many owners the edges have.
-    #[cfg(test)]
+    /// How many have the edges, this one counted. It decides no answer.
     pub fn owners(&self) -> usize {
         Arc::strong_count(&self.row)
     }
