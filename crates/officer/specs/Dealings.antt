@@ -8,10 +8,10 @@ use Rattle.officer.specs.declared.deliver.DeliverFault.{DeliverFault}
 use Rattle.officer.specs.declared.fetch.FetchFault.{FetchFault}
 use Rattle.officer.specs.declared.surroundings.WordsFault.{WordsFault}
 use Rattle.officer.specs.Faults.{cause_of_fetch, cause_of_words}
-use Rattle.officer.specs.Readings.{ReportText}
-use Rattle.officer.specs.Calls.{CallWords, Input as input, File as file, Files as files, Race as race, CommandWords, call_of, command_of}
-use Rattle.officer.specs.Reports.{IsReport}
-use Rattle.officer.specs.Races.{IsRaceReport}
+use Rattle.tg_reports.specs.Readings.{ReportText}
+use Rattle.tg_reports.specs.Calls.{CallWords, Input as input, File as file, Files as files, Race as race, CommandWords, call_of, command_of}
+use Rattle.tg_reports.specs.Reports.{IsReport}
+use Rattle.tg_reports.specs.Races.{IsRaceReport}
 
 -- one question to the surroundings, and its answer
 pub data Dealing : Type 0 where

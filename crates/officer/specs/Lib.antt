@@ -1,15 +1,4 @@
 pub mod Inputs
 pub mod Faults
-pub mod Calls
-pub mod Readings
-pub mod Runs
-pub mod Derived
-pub mod Policies
-pub mod Reports
-pub mod Outcomes
-pub mod PolicyParts
 pub mod Dealings
-pub mod Races
-pub mod RaceParts
-pub mod ReportLaws
 pub mod RunLaws

@@ -1,19 +1,16 @@
 //! What the program does for its command line.
 ghost use Rattle.std.specs.Prelude.{◌≡◌, [], IfOk, Ok, map, string_bytes};
-ghost use Rattle.officer.specs.Calls.{call_words, command_of};
+ghost use Rattle.tg_reports.specs.Calls.{call_words, command_of};
 ghost use Rattle.officer.specs.Dealings.{Deals, Reads, ReadsBoth, Prints, IsReportOf, AnswersCall, IsRun, and_text, bytes_of, text_or, seen};
-ghost use Rattle.officer.specs.Outcomes.{report_text};
+ghost use Rattle.tg_reports.specs.Outcomes.{report_text};
 
 use crate::deliver::DeliverFault;
 use crate::fault::Cause;
 use crate::fetch::FetchFault;
-use crate::outcome::Report;
-use crate::race::race;
-use crate::report::report_of_texts;
 use crate::surroundings::{Surroundings, WordsFault};
-use crate::words::{Call, read_words};
 use std::alloc::{AllocError, Global};
 use std::thread::Threads;
+use tg_reports::{Call, Report, race, read_words, report_of_texts};
 
 // The texts of a command; where it has one text, the second is empty.
 #[derive(Drop)]

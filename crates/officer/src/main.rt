@@ -1,4 +1,4 @@
-//! The officer: reports on protection graphs, from texts to texts.
+//! The officer: reports on protection graphs, for the words of a command line.
 #![tactic(auto)]
 
 pub mod call;
@@ -7,51 +7,12 @@ pub mod deliver;
 mod famine_tests;
 pub mod fault;
 pub mod fetch;
-mod groups;
-mod inputs;
-mod island_lines;
 pub mod laws;
 #[cfg(test)]
-mod limit_tests;
-#[cfg(test)]
 mod memory_tests;
-pub mod outcome;
-mod outcome_lines;
-mod parts;
-mod playing;
-#[cfg(test)]
-mod policy_report_tests;
-pub mod race;
-mod race_lines;
-#[cfg(test)]
-mod race_tests;
-mod reach_lines;
-pub mod report;
-#[cfg(test)]
-mod run_tests;
-mod running;
-mod sharing;
 pub mod surroundings;
 #[cfg(test)]
 mod surroundings_tests;
-mod table_lines;
-#[cfg(test)]
-mod table_report_tests;
-#[cfg(test)]
-mod test_reports;
-#[cfg(test)]
-mod test_words;
-#[cfg(test)]
-mod tests;
-mod turns;
-mod verdicts;
-mod verifying;
-#[cfg(test)]
-mod version_tests;
-mod who_lines;
-#[cfg(test)]
-mod who_tests;
-pub mod words;
 
 use call::run;
 use fault::fault_line;

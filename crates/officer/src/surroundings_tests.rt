@@ -3,8 +3,6 @@ use crate::deliver::{DeliverFault, deliver};
 use crate::fault::{Cause, fault_line};
 use crate::fetch::{FetchFault, MOST_BYTES, Reads, fetch, fetch_counting};
 use crate::surroundings::{Process, Surroundings, WordsFault};
-use crate::test_words::{calls_for, no_call};
-use crate::words::{Call, Command};
 use std::alloc::{AllocError, Global};
 use std::io::{Error, ErrorKind, Read, Write};
 use std::process::Abort;
@@ -255,29 +253,6 @@ fn fault_lines(rt: HostRuntime) {
     ] {
         says(&rt, cause, line, status);
     }
-}
-
-#[test]
-fn calls(rt: HostRuntime) {
-    let (rights, x, y) = ("r", "a", "c");
-    calls_for(&rt, &[], Call::Input);
-    calls_for(&rt, &["check", "G"], Call::File(Command::Check, "G"));
-    calls_for(&rt, &["islands", "G"], Call::File(Command::Islands, "G"));
-    let rules = Call::Files(Command::Apply, "G", "R");
-    calls_for(&rt, &["apply", "G", "R"], rules);
-    let script = Call::Files(Command::Run, "G", "S");
-    calls_for(&rt, &["run", "G", "S"], script);
-    let share = Call::File(Command::Share { rights, x, y }, "G");
-    calls_for(&rt, &["share", "G", "r", "a", "c"], share);
-    let derive = Call::File(Command::Derive { rights, x, y }, "G");
-    calls_for(&rt, &["derive", "G", "r", "a", "c"], derive);
-}
-
-#[test]
-fn no_calls(rt: HostRuntime) {
-    no_call(&rt, &["fly", "G"]);
-    no_call(&rt, &["check"]);
-    no_call(&rt, &["check", "g", "h"]);
 }
 
 // What a question to a desk gives.

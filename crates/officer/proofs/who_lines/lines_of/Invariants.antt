@@ -1,7 +1,0 @@
-use Rattle.std.proofs.Common.{◌≡◌, take}
-use Rattle.std.specs.Map.{keys_of}
-use Rattle.officer.specs.Outcomes.{marked_text}
-use Rattle.officer.proofs.who_lines.lines_of.Given as goal
-
-abbrev pub invariant-loop-name : goal.invariant-loop-name
-invariant-loop-name l = l.text.items ≡ marked_text (keys_of l.graph) l.marks (take l.name-index l.names)

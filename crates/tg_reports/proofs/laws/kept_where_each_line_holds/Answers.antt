@@ -1,0 +1,8 @@
+use Rattle.tg_reports.proofs.VerdictLaws.{kept_exactly, verdicts_are_one}
+use Rattle.tg_reports.proofs.laws.kept_where_each_line_holds.Goals as goal
+
+pub returns-clause-kept : goal.returns-clause-kept
+returns-clause-kept c = kept_exactly
+
+pub returns-clause-one : goal.returns-clause-one
+returns-clause-one c = verdicts_are_one
