@@ -1,0 +1,12 @@
+pub mod EdgeOrder
+pub mod Removed
+pub mod Able
+pub mod FlowEdges
+pub mod Bounds
+pub mod Sides
+pub mod Nearest
+pub mod Needed
+pub mod OneCut
+pub mod LossRules
+pub mod CutFound
+pub mod KeptEnds

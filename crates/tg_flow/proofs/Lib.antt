@@ -1,0 +1,9 @@
+pub mod Tallies
+pub mod Passages
+pub mod Changes
+pub mod Carried
+pub mod Found
+pub mod Limits
+pub mod Marks
+pub mod Cuts
+pub mod Leading

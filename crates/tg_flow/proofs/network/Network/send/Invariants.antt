@@ -1,0 +1,16 @@
+use Rattle.std.proofs.Common.{◌≡◌, ℕ, true}
+use Rattle.tg_flow.specs.Flows.{IsFlow, IsCarried, SameBut}
+use Rattle.tg_flow.specs.Ways.{is_met, level_at, HaveStepsUpTo}
+use Rattle.tg_flow.proofs.network.Network.send.Given as goal
+
+abbrev pub invariant-loop-next : goal.invariant-loop-next
+invariant-loop-next l =
+    record {
+      met : is_met l.ways.steps.items l.position ≡ true;
+      can : HaveStepsUpTo (level_at l.ways.steps.items l.position) l.self l.ways.steps.items;
+      same : SameBut l.fn.self l.self;
+      carried : (units : ℕ) → IsFlow l.fn.self l.x units → IsCarried l.self l.x units l.position;
+    }
+
+abbrev pub decreases-loop-next : goal.decreases-loop-next
+decreases-loop-next l = level_at l.ways.steps.items l.position

@@ -1,0 +1,5 @@
+use Rattle.std.proofs.Common.{◌≡◌, None, replicate}
+use Rattle.tg_flow.proofs.ways.Ways.none.Given as goal
+
+abbrev pub invariant-loop : goal.invariant-loop
+invariant-loop l = l.steps.items ≡ replicate l.counter None

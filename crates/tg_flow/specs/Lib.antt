@@ -1,0 +1,10 @@
+pub mod Edges
+pub mod Packed
+pub mod Flows
+pub mod Ways
+pub mod Sending
+pub mod Courses
+pub mod Searches
+pub mod Filling
+pub mod Sides
+pub mod Cuts
