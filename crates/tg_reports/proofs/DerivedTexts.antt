@@ -29,11 +29,11 @@ use Rattle.tg_reports.specs.Derived.{derivation_report}
 use Rattle.tg_reports.specs.Reports.{Played, played_first, played}
 use Rattle.tg_reports.specs.ReportLaws.{rules_of, DerivationsGiveTheRights, ReadDerivationsGiveTheRights, DerivationsBelowGiveTheRight}
 
-are_rules : (g : ProtectionGraph) (rules : List Rule) → AllAccepted g rules → AllByRecursion IsRule rules
+pub are_rules : (g : ProtectionGraph) (rules : List Rule) → AllAccepted g rules → AllByRecursion IsRule rules
 are_rules g [] a = tt
 are_rules g (rule ∷ rules) a = (a.0, are_rules (after g rule) rules a.2)
 
-same_rules : (n : ℕ) (rules : List Rule) → rules_of (on_lines n rules) ≡ rules
+pub same_rules : (n : ℕ) (rules : List Rule) → rules_of (on_lines n rules) ≡ rules
 same_rules n [] = refl
 same_rules n (rule ∷ rules) = ap (λ rs. rule ∷ rs) (same_rules (n + 1) rules)
 
@@ -42,7 +42,7 @@ pub record IsWhole (g : ProtectionGraph) (rules : List Rule) (p : Played) : Type
   pub status : p.status ≡ 0
   pub end : p.end ≡ after_all g rules
 
-all_played : (g : ProtectionGraph) (n : ℕ) (rules : List Rule) → AllAccepted g rules → IsWhole g rules (played g (on_lines n rules))
+pub all_played : (g : ProtectionGraph) (n : ℕ) (rules : List Rule) → AllAccepted g rules → IsWhole g rules (played g (on_lines n rules))
 all_played g n [] a = record { status = refl; end = refl }
 all_played g n (rule ∷ rules) a =
     let rest = all_played (after g rule) (n + 1) rules a.2 in
@@ -85,7 +85,7 @@ derivations_give q rules small derived =
     }
 
 -- ---- the graph of a question that was read
-from_read : {A : Type 0} (text : List ℕ) (r : Result A (ℕ × TextKind)) (x : A) → from_text text r ≡ Ok x → r ≡ Ok x
+pub from_read : {A : Type 0} (text : List ℕ) (r : Result A (ℕ × TextKind)) (x : A) → from_text text r ≡ Ok x → r ≡ Ok x
 from_read text (Ok y) x e = cc
 from_read text (Err fault) x e = absurd cc
 

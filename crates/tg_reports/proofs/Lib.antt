@@ -20,3 +20,6 @@ pub mod VerdictLaws
 pub mod ToldLines
 pub mod FirstBreaks
 pub mod OneVerified
+pub mod ReadGraphs
+pub mod CutReports
+pub mod CutTexts

@@ -9,8 +9,8 @@ use Rattle.tg_graph.specs.Graphs.{ProtectionGraph, has_vertex}
 use Rattle.tg_names.proofs.Sets.{same_set}
 use Rattle.tg_text.specs.Canonical.{in_name_order}
 use Rattle.tg_text.proofs.NameOrder.{among, among-in_order, same_name-refl}
-use Rattle.tg_reports.specs.Calls.{Case, Check, Apply, Islands, Share, Derive, Table, Run, Who, Reach, Verify}
-use Rattle.tg_reports.specs.Readings.{ReportText, Question, TableQuestion, WhoQuestion, ReachQuestion, PolicyOver, graph_in, question_in, table_in, who_in, reach_in, policy_lines_in, policy_in}
+use Rattle.tg_reports.specs.Calls.{Case, Check, Apply, Islands, Share, Derive, Table, Run, Who, Reach, Verify, Cut}
+use Rattle.tg_reports.specs.Readings.{ReportText, Question, TableQuestion, WhoQuestion, ReachQuestion, PolicyOver, graph_in, question_in, table_in, who_in, reach_in, policy_lines_in, policy_in, cut_in}
 use Rattle.tg_reports.specs.Reports.{IsFor, Is, AreTableLines, digit_for, table_text, IsAnswer, IsDerived, TellsIslands, AreIslandLines, island_line, islands_text, AreWhoLines, TellsWho, name_line, who_text, AreReachLines, IsReached, TellsReach, reach_line, reach_text, check_report, apply_report, graph_part, rules_part}
 use Rattle.tg_reports.specs.Runs.{playing_in, IsPlayed}
 use Rattle.tg_reports.specs.Policies.{IsVerified}
@@ -18,6 +18,7 @@ use Rattle.tg_reports.specs.ReportLaws.{FindsRules, HasRules, ThereIsOneReport}
 use Rattle.tg_text.specs.Reading.{◌>>=◌}
 use Rattle.tg_text.proofs.Steps.{ok_is, bind_ok}
 use Rattle.tg_reports.proofs.OnePlay.{played_one}
+use Rattle.tg_reports.proofs.CutReports.{asked_read, for_cut}
 use Rattle.tg_reports.proofs.OneVerified.{verified_one, verified_same}
 
 -- ---- tests that agree
@@ -164,3 +165,4 @@ one_report (Who rights y) first second a b i j = inl (for_one AreWhoLines (who_i
 one_report (Verify true) first second a b i j = for_verified true (policy_in first second) first a b (graph_of_policy first second) i j
 one_report (Verify false) first second a b i j = inl (for_one (λ p. IsVerified false p.graph p.lines) (policy_in first second) a b (λ p h k. verified_same p.graph p.lines a b h k) i j)
 one_report (Reach x) first second a b i j = inl (for_one AreReachLines (reach_in first x) a b (λ q h k. reach_one q a b h k) i j)
+one_report (Cut right x y kept) first second a b i j = inl (for_cut (cut_in first right x y kept) a b (asked_read first right x y kept) i j)

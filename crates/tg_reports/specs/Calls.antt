@@ -1,5 +1,5 @@
 -- What the words of a command line ask for.
-use Rattle.std.specs.Prelude.{ℕ, Bool, true, false, ◌&&◌, List, [], ◌∷◌, length, nat_lt, bytes_eq, codes, if◌then◌else◌, Option, Some, None}
+use Rattle.std.specs.Prelude.{ℕ, ◌*◌, Bool, true, false, ◌&&◌, List, [], ◌∷◌, length, map, nat_lt, nat_le, bytes_eq, codes, if◌then◌else◌, Option, Some, None}
 use Rattle.std.specs.Option.{option_map}
 use Rattle.tg_text.specs.Words.{with_digits}
 use Rattle.tg_reports.specs.declared.words.Command.{Command}
@@ -20,6 +20,8 @@ pub data CommandWords : Type 0 where
   Who : List ℕ → List ℕ → CommandWords
   Reach : List ℕ → CommandWords
   Verify : Bool → CommandWords
+  -- the right, x, y, and the words that keep edges
+  Cut : List ℕ → List ℕ → List ℕ → List (List ℕ) → CommandWords
 
 -- a call with its words
 pub data CallWords : Type 0 where
@@ -40,6 +42,7 @@ command_words command.Run = Run
 command_words (command.Who rights y) = Who rights.now y.now
 command_words (command.Reach x) = Reach x.now
 command_words (command.Verify why) = Verify why
+command_words (command.Cut right x y kept) = Cut right.now x.now y.now (map (λ word. word.now) kept.now)
 
 abbrev pub call_words : Call → CallWords
 call_words call.Input = Input
@@ -91,7 +94,28 @@ table_command right option workers = if bytes_eq option (codes "--workers") then
 -- the questions to a graph
 abbrev pub question : List ℕ → List ℕ → List ℕ → List ℕ → Option CommandWords
 question name right x y =
-    if bytes_eq name (codes "share") then Some (Share right x y) else (if bytes_eq name (codes "derive") then Some (Derive right x y) else (if bytes_eq name (codes "table") then table_command right x y else None))
+    if bytes_eq name (codes "share") then Some (Share right x y)
+    else (if bytes_eq name (codes "derive") then Some (Derive right x y)
+    else (if bytes_eq name (codes "table") then table_command right x y else (if bytes_eq name (codes "cut") then Some (Cut right x y []) else None)))
+
+-- how many edges may be kept
+abbrev pub most_kept : ℕ
+most_kept = 64
+
+-- three words for each edge that is kept: the option, and the names of its ends
+abbrev pub are_keeps : List (List ℕ) → Bool
+are_keeps [] = true
+are_keeps (option ∷ []) = false
+are_keeps (option ∷ source ∷ []) = false
+are_keeps (option ∷ source ∷ target ∷ rest) = bytes_eq option (codes "--keep") && are_keeps rest
+
+-- and no more edges than may be kept
+abbrev pub are_kept : List (List ℕ) → Bool
+are_kept words = nat_le (length words) (3 * most_kept) && are_keeps words
+
+-- the question with words behind y: which rights have to go, where edges are kept
+abbrev pub cut_command : List ℕ → List ℕ → List ℕ → List ℕ → List (List ℕ) → Option CommandWords
+cut_command name right x y kept = if bytes_eq name (codes "cut") && are_kept kept then Some (Cut right x y kept) else None
 
 -- the call that the words ask for
 abbrev pub call_of : List (List ℕ) → Option CallWords
@@ -101,4 +125,4 @@ call_of (name ∷ graph ∷ []) = option_map (λ c. File c graph) (graph_command
 call_of (name ∷ graph ∷ second ∷ []) = texts_call name graph second
 call_of (name ∷ graph ∷ second ∷ third ∷ []) = two_words_call name graph second third
 call_of (name ∷ graph ∷ right ∷ x ∷ y ∷ []) = option_map (λ c. File c graph) (question name right x y)
-call_of (name ∷ graph ∷ right ∷ x ∷ y ∷ z ∷ more) = None
+call_of (name ∷ graph ∷ right ∷ x ∷ y ∷ z ∷ more) = option_map (λ c. File c graph) (cut_command name right x y (z ∷ more))

@@ -1,4 +1,4 @@
--- A derivation as a text.
+-- A derivation as a text, and a cut.
 use Rattle.std.specs.Prelude.{List, [], ◌∷◌, ◌++◌, length, codes, decimal}
 use Rattle.tg_graph.specs.declared.rules.Rule.{Rule}
 use Rattle.tg_text.specs.Canonical.{line_of}
@@ -8,3 +8,7 @@ use Rattle.tg_reports.specs.Readings.{ReportText}
 -- a list of rules as a text of rules
 abbrev pub derivation_report : List Rule → ReportText
 derivation_report rules = record { bytes = line_of (codes "#" ∷ codes "yes" ∷ decimal (length rules) ∷ []) ++ lines_of_rules rules; status = 0 }
+
+-- the rules of a cut as a text of rules: how many edges lose rights, and what each loses
+abbrev pub cut_report : List Rule → ReportText
+cut_report rules = record { bytes = line_of (codes "#" ∷ codes "cut" ∷ decimal (length rules) ∷ []) ++ lines_of_rules rules; status = 0 }

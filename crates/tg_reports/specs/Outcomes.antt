@@ -1,9 +1,10 @@
 -- What the parts of a report's making bring.
-use Rattle.std.specs.Prelude.{◌≡◌, if◌then◌else◌, ⊤, All, ◌<◌, ℕ, nat_eq, bytes_eq, position, map, filter, option_and_then, Bool, true, false, unwrap_or, List, [], ◌∷◌, ◌++◌, ◌≤◌, length, slice_index_or, slice_get, Option, Some, None, Result, Ok, Err}
+use Rattle.std.specs.Prelude.{◌≡◌, if◌then◌else◌, ⊤, All, ◌<◌, ℕ, nat_eq, bytes_eq, codes, position, map, filter, option_and_then, Bool, true, false, unwrap_or, List, [], ◌∷◌, ◌++◌, ◌≤◌, length, slice_index_or, slice_get, Option, Some, None, Result, Ok, Err}
 use Rattle.std.specs.List.{flat_map}
 use Rattle.std.specs.Option.{option_eq, option_map_or}
 use Rattle.tg_names.specs.declared.right_sets.Rights.{Rights}
 use Rattle.tg_graph.specs.declared.rules.Refusal.{Refusal}
+use Rattle.tg_graph.specs.declared.rules.Rule.{Rule}
 use Rattle.tg_graph.specs.declared.session.Reply.TheVariants.{Done, Refused}
 use Rattle.tg_names.specs.Sets.{nothing}
 use Rattle.tg_names.specs.Names.{Name}
@@ -15,6 +16,9 @@ use Rattle.tg_text.specs.declared.rule_text.RuleLine.{RuleLine}
 use Rattle.tg_text.specs.declared.script_text.ScriptLine.{ScriptLine}
 use Rattle.tg_text.specs.ScriptText.{ScriptOf}
 use Rattle.tg_analysis.specs.Numbering.{number_of}
+use Rattle.tg_analysis.specs.declared.questions.AskFault.{AskFault}
+use Rattle.tg_cuts.specs.declared.kept.Ends.{Ends}
+use Rattle.tg_cuts.specs.Cuts.{unknown_end_or, cut_fault}
 use Rattle.tg_store.specs.declared.events.HallFault.{HallFault}
 use Rattle.tg_store.specs.declared.events.HallFault.TheVariants as hall
 use Rattle.tg_store.specs.declared.events.HallReply.{HallReply}
@@ -29,10 +33,12 @@ use Rattle.tg_reports.specs.declared.inputs.Question.{Question}
 use Rattle.tg_reports.specs.declared.inputs.TableWork.{TableWork}
 use Rattle.tg_reports.specs.declared.inputs.WhoQuestion.{WhoQuestion}
 use Rattle.tg_reports.specs.declared.inputs.ReachQuestion.{ReachQuestion}
+use Rattle.tg_reports.specs.declared.inputs.CutQuestion.{CutQuestion}
 use Rattle.tg_text.specs.Reading.{◌>>=◌}
 use Rattle.tg_reports.specs.declared.playing.AppliedRules.{AppliedRules}
-use Rattle.tg_reports.specs.Readings.{ReportText, rules_in, Question as Asked, TableQuestion, WhoQuestion as WhoAsked, ReachQuestion as ReachAsked}
-use Rattle.tg_reports.specs.Reports.{Played, played, reply_line, island_line, digit_for, name_line, reach_line}
+use Rattle.tg_reports.specs.Readings.{ReportText, rules_in, Question as Asked, TableQuestion, WhoQuestion as WhoAsked, ReachQuestion as ReachAsked, CutQuestion as CutAsked}
+use Rattle.tg_reports.specs.Derived.{cut_report}
+use Rattle.tg_reports.specs.Reports.{Played, played, reply_line, island_line, digit_for, name_line, reach_line, says}
 use Rattle.tg_reports.specs.Runs.{IsOutcome}
 
 abbrev pub report_text : Report → ReportText
@@ -183,3 +189,19 @@ set_of_name vs sets v = unwrap_or (option_and_then (λ place. slice_get sets pla
 -- the lines of the names that have a right
 abbrev pub reached_text : List Name → List Rights → List Name → List ℕ
 reached_text vs sets names = flat_map (λ v. reach_line (set_of_name vs sets v) v) names
+
+abbrev pub cut_question_of : CutQuestion → CutAsked
+cut_question_of q = record { graph = graph_of q.graph; right = q.right; x = q.x; y = q.y; kept = q.kept.items }
+
+-- the ends of all these edges are vertices: no fault is found among them, whatever comes later
+abbrev pub HaveEnds : ProtectionGraph → List Ends → Type 0
+HaveEnds g edges = (later : Option AskFault) → unknown_end_or g edges later ≡ later
+
+-- what a question for a cut can count on: its names are vertices, those of kept edges too, and the graph has no more vertices than a text may name
+abbrev pub IsCuttable : CutAsked → Type 0
+IsCuttable q = cut_fault q.graph q.x q.y q.kept ≡ None
+
+-- the text of a cut: no where nothing has to go
+abbrev pub cut_text : List Rule → ReportText
+cut_text [] = says (codes "#" ∷ codes "no" ∷ [])
+cut_text (rule ∷ rules) = cut_report (rule ∷ rules)

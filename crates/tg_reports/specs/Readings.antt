@@ -16,6 +16,7 @@ use Rattle.tg_text.specs.ScriptText.{ScriptOf, script_text}
 use Rattle.tg_text.specs.PolicyText.{PolicyLineOf, policy_text}
 use Rattle.tg_text.specs.Canonical.{line_of}
 use Rattle.tg_analysis.specs.Tables.{most_workers}
+use Rattle.tg_cuts.specs.declared.kept.Ends.{Ends}
 
 -- a report
 pub record ReportText : Type 0 where
@@ -135,6 +136,42 @@ reach_in first x = do
   a ← name_in x
   u ← vertex_in g a
   Ok (record { graph = g; x = u })
+
+-- a question to a graph: which rights have to go so that x can't come to have the right over y, where some edges stay as they are
+pub record CutQuestion : Type 0 where
+  pub graph : ProtectionGraph
+  pub right : Right
+  pub x : Name
+  pub y : Name
+  pub kept : List Ends
+
+-- the edge that two words name: both are names, and then both are vertices
+abbrev pub edge_in : ProtectionGraph → List ℕ → List ℕ → Result Ends ReportText
+edge_in g source target = do
+  a ← name_in source
+  b ← name_in target
+  u ← vertex_in g a
+  v ← vertex_in g b
+  Ok (record { source = u; target = v })
+
+-- the edges that words name in threes, behind an option each, in turn
+abbrev pub kept_in : ProtectionGraph → List (List ℕ) → Result (List Ends) ReportText
+kept_in g [] = Ok []
+kept_in g (option ∷ []) = Ok []
+kept_in g (option ∷ source ∷ []) = Ok []
+kept_in g (option ∷ source ∷ target ∷ rest) = edge_in g source target >>= λ edge. kept_in g rest >>= λ edges. Ok (edge ∷ edges)
+
+-- what is asked of the graph of a text, the words in their order
+abbrev pub cut_in : List ℕ → List ℕ → List ℕ → List ℕ → List (List ℕ) → Result CutQuestion ReportText
+cut_in first right x y kept = do
+  g ← graph_in first
+  r ← right_in right
+  a ← name_in x
+  b ← name_in y
+  u ← vertex_in g a
+  v ← vertex_in g b
+  edges ← kept_in g kept
+  Ok (record { graph = g; right = r; x = u; y = v; kept = edges })
 
 -- a number of workers that there may be
 abbrev pub workers_in : ℕ → Result ℕ ReportText

@@ -10,17 +10,20 @@ use Rattle.tg_names.specs.Names.{Name, same_name}
 use Rattle.tg_graph.specs.Graphs.{ProtectionGraph, has_vertex, WellFormed}
 use Rattle.tg_graph.specs.Limits.{most_vertices}
 use Rattle.tg_graph.specs.Rules.{refusal_of}
+use Rattle.tg_graph.specs.RuleLists.{CanShare}
 use Rattle.tg_graph.specs.Additions.{Leads}
 use Rattle.tg_text.specs.declared.rule_text.RuleLine.{RuleLine}
+use Rattle.tg_text.specs.Limits.{most_rules}
 use Rattle.tg_text.specs.RuleText.{rules_text}
 use Rattle.tg_text.specs.Canonical.{canonical_text, in_name_order, line_of}
 use Rattle.tg_analysis.specs.Sharing.{InOneIsland}
 use Rattle.tg_analysis.specs.Derivations.{IsDerivation}
 use Rattle.tg_analysis.specs.Moves.{only}
 use Rattle.tg_analysis.specs.SetDerivations.{IsDerivationOfAll}
-use Rattle.tg_reports.specs.Calls.{CommandWords, Case, Check, Apply, Islands, Share, Derive, Table, Run, Who, Reach, Verify}
-use Rattle.tg_reports.specs.Readings.{Question, ReportText, graph_in, question_in}
-use Rattle.tg_reports.specs.Derived.{derivation_report}
+use Rattle.tg_cuts.specs.Cuts.{IsTheCut}
+use Rattle.tg_reports.specs.Calls.{CommandWords, Case, Check, Apply, Islands, Share, Derive, Table, Run, Who, Reach, Verify, Cut}
+use Rattle.tg_reports.specs.Readings.{Question, ReportText, CutQuestion, graph_in, question_in, cut_in}
+use Rattle.tg_reports.specs.Derived.{derivation_report, cut_report}
 use Rattle.tg_reports.specs.Reports.{Played, played, check_report, AreIslandLines, TellsSharing, AreWhoLines, who_text, AreReachLines, reach_text, IsReport}
 
 abbrev pub rules_of : List RuleLine → List Rule
@@ -56,6 +59,22 @@ ReadDerivationsGiveTheRights = (first rights x y : List ℕ) (q : Question) (rul
 abbrev pub DerivationsBelowGiveTheRight : Type 0
 DerivationsBelowGiveTheRight = (g : ProtectionGraph) (right : Right) (x y : Name) (rules : List Rule) → length g.vertices ≤ most_vertices → IsDerivation g right x y rules → GivesTheRights (record { graph = g; rights = only right; x = x; y = y }) rules
 
+-- The report is a text of these rules. On the same graph they are carried out whole, and x can't come to have the right then.
+pub record MakesItNo (q : CutQuestion) (cut : List Rule) : Type 0 where
+  pub lines : List RuleLine
+  pub read : rules_text (cut_report cut).bytes ≡ Ok lines
+  pub same : rules_of lines ≡ cut
+  pub status : (played q.graph lines).status ≡ 0
+  pub no : CanShare (played q.graph lines).end q.right q.x q.y → ⊥
+
+-- a cut that is printed can be applied, if it is no longer than a text of rules may be, and then it makes the answer no
+abbrev pub CutsMakeItNo : Type 0
+CutsMakeItNo = (q : CutQuestion) (cut : List Rule) → WellFormed q.graph → length cut ≤ most_rules → IsTheCut q.graph q.right q.x q.y q.kept cut → MakesItNo q cut
+
+-- where no edge is kept it is never longer
+abbrev pub CutsFit : Type 0
+CutsFit = (first right x y : List ℕ) (q : CutQuestion) (cut : List Rule) → cut_in first right x y [] ≡ Ok q → IsTheCut q.graph q.right q.x q.y [] cut → length cut ≤ most_rules
+
 -- the canonical text of a graph that a text may hold is checked as it stands
 abbrev pub CanonicalTextsStay : Type 0
 CanonicalTextsStay = (g : ProtectionGraph) → WellFormed g → length g.vertices ≤ most_vertices → check_report (canonical_text g) ≡ Ok (record { bytes = canonical_text g; status = 0 })
@@ -85,6 +104,7 @@ GivesRules (Who rights y) first report = ⊥
 GivesRules (Reach x) first report = ⊥
 GivesRules (Verify true) first report = HasRules (graph_in first) report
 GivesRules (Verify false) first report = ⊥
+GivesRules (Cut right x y kept) first report = ⊥
 
 -- a command has one report for its texts, but that other rules may be found
 abbrev pub ThereIsOneReport : Type 0

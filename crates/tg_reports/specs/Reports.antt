@@ -21,9 +21,10 @@ use Rattle.tg_text.specs.Spelling.{reply_words}
 use Rattle.tg_text.specs.Canonical.{line_of, canonical_text, in_name_order}
 use Rattle.tg_analysis.specs.Sharing.{InOneIsland}
 use Rattle.tg_analysis.specs.SetDerivations.{IsDerivationOfAll}
-use Rattle.tg_reports.specs.Calls.{CommandWords, Case, Check, Apply, Islands, Share, Derive, Table, Run, Who, Reach, Verify}
-use Rattle.tg_reports.specs.Readings.{ReportText, graph_in, rules_in, Question, question_in, TableQuestion, table_in, WhoQuestion, who_in, ReachQuestion, reach_in, policy_in}
-use Rattle.tg_reports.specs.Derived.{derivation_report}
+use Rattle.tg_cuts.specs.Cuts.{IsTheCut, HasNoCut}
+use Rattle.tg_reports.specs.Calls.{CommandWords, Case, Check, Apply, Islands, Share, Derive, Table, Run, Who, Reach, Verify, Cut}
+use Rattle.tg_reports.specs.Readings.{ReportText, graph_in, rules_in, Question, question_in, TableQuestion, table_in, WhoQuestion, who_in, ReachQuestion, reach_in, CutQuestion, cut_in, policy_in}
+use Rattle.tg_reports.specs.Derived.{derivation_report, cut_report}
 use Rattle.tg_reports.specs.Policies.{IsVerified}
 use Rattle.tg_reports.specs.Runs.{playing_in, IsPlayed}
 
@@ -176,6 +177,17 @@ abbrev pub AreReachLines : ReachQuestion → ReportText → Type 0
 AreReachLines q report =
     (reached : Name → Rights) × TellsReach q.graph q.x reached × (report ≡ record { bytes = reach_text reached (in_name_order q.graph.vertices); status = 0 })
 
+-- the kept edges leave no cut
+abbrev pub no_cut_report : ReportText
+no_cut_report = record { bytes = line_of (codes "#" ∷ codes "none" ∷ []); status = 1 }
+
+-- no exactly where x can't come to have the right; none exactly where the kept edges leave no cut; else the least cut nearest to x
+abbrev pub IsCut : CutQuestion → ReportText → Type 0
+IsCut q report =
+    ((CanShare q.graph q.right q.x q.y → ⊥) × (report ≡ says (codes "#" ∷ codes "no" ∷ [])))
+    ⊎ ((HasNoCut q.graph q.right q.x q.y q.kept × (report ≡ no_cut_report))
+    ⊎ ((cut : List Rule) × CanShare q.graph q.right q.x q.y × IsTheCut q.graph q.right q.x q.y q.kept cut × (report ≡ cut_report cut)))
+
 -- the report of a fault, or one of which the fact holds
 abbrev pub IsFor : {A : Type 0} → (A → ReportText → Type 0) → Result A ReportText → ReportText → Type 0
 IsFor P (Ok a) report = P a report
@@ -197,3 +209,4 @@ IsReport Run first second = IsFor (λ playing. IsPlayed playing.graph playing.sc
 IsReport (Who rights y) first second = IsFor AreWhoLines (who_in first rights y)
 IsReport (Reach x) first second = IsFor AreReachLines (reach_in first x)
 IsReport (Verify why) first second = IsFor (λ policy. IsVerified why policy.graph policy.lines) (policy_in first second)
+IsReport (Cut right x y kept) first second = IsFor IsCut (cut_in first right x y kept)

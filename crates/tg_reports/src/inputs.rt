@@ -1,17 +1,18 @@
 //! The texts that a report is about.
-ghost use Rattle.std.specs.Prelude.{◌≡◌, ◌≤◌, ◌∷◌, ◌++◌, [], length, codes, true, IfOk, OnOk};
+ghost use Rattle.std.specs.Prelude.{◌≡◌, ◌≤◌, ◌∷◌, ◌++◌, [], length, codes, map, true, IfOk, OnOk};
 ghost use Rattle.tg_graph.specs.GraphOf.{graph_of};
 ghost use Rattle.tg_graph.specs.Graphs.{has_vertex};
 ghost use Rattle.tg_graph.specs.Limits.{most_vertices};
 ghost use Rattle.tg_text.specs.ScriptText.{script_of};
 ghost use Rattle.tg_text.specs.PolicyText.{policy_of, ArePolicyLines};
-ghost use Rattle.tg_reports.specs.Readings.{kind_word, refusal, text_refusal, graph_in, script_in, policy_lines_in, right_in, rights_in, name_in, vertex_in, question_in, workers_in, table_in, who_in, reach_in};
-ghost use Rattle.tg_reports.specs.Outcomes.{Brings, report_text, played_in, played_so_far, question_of, table_question_of, who_question_of, reach_question_of, IsAskable, IsTableWork, IsPlayableScript};
+ghost use Rattle.tg_reports.specs.Readings.{kind_word, refusal, text_refusal, graph_in, script_in, policy_lines_in, right_in, rights_in, name_in, vertex_in, question_in, workers_in, table_in, who_in, reach_in, edge_in, kept_in, cut_in};
+ghost use Rattle.tg_reports.specs.Outcomes.{Brings, report_text, played_in, played_so_far, question_of, table_question_of, who_question_of, reach_question_of, cut_question_of, IsAskable, IsCuttable, HaveEnds, IsTableWork, IsPlayableScript};
 
 use crate::outcome::{Halt, Report};
 use crate::playing::AppliedRules;
 use std::alloc::{AllocError, Global};
 use tg_analysis::MOST_WORKERS;
+use tg_cuts::Ends;
 use tg_graph::{Graph, Name, NameFault, Refusal, Reply, Right, Rights};
 use tg_text::{
     PolicyLine, Script, TextFault, TextKind, append_reply, read_graph, read_policy,
@@ -254,6 +255,84 @@ pub(crate) fn reach_in(alloc: Global, text: &[u8], x: &str) -> Result<ReachQuest
     let x = name_in(alloc, x)?;
     let x = vertex_in(alloc, &graph, x)?;
     Ok(ReachQuestion { graph, x })
+}
+
+/// A question to a graph: which rights have to go so that x can't come to have the right over y, where some
+/// edges stay as they are.
+#[derive(Drop)]
+pub(crate) struct CutQuestion {
+    pub graph: Graph,
+    pub right: Right,
+    pub x: Name,
+    pub y: Name,
+    pub kept: Vec<Ends>,
+}
+
+// The edge that two words name.
+fn edge_in(alloc: Global, graph: &Graph, source: &str, target: &str) -> Result<Ends, Halt>
+    ensures made { Brings (λ edge. edge) result
+        (edge_in (graph_of graph.now) source.now target.now) }
+    ensures source { IfOk result (λ edge. has_vertex (graph_of graph.now) edge.source ≡ true) }
+    ensures target { IfOk result (λ edge. has_vertex (graph_of graph.now) edge.target ≡ true) }
+{
+    let source = name_in(alloc, source)?;
+    let target = name_in(alloc, target)?;
+    let source = vertex_in(alloc, graph, source)?;
+    let target = vertex_in(alloc, graph, target)?;
+    Ok(Ends { source, target })
+}
+
+// Puts an edge behind others.
+fn add_edge(edges: &mut Vec<Ends>, edge: Ends) -> Result<(), AllocError>
+    ensures { OnOk result (edges.new.items ≡ edges.old.items ++ edge ∷ []) }
+{
+    edges.push(edge)?;
+    Ok(())
+}
+
+// The edges that words name in threes, behind an option each.
+fn kept_in(alloc: Global, graph: &Graph, words: &[&str]) -> Result<Vec<Ends>, Halt>
+    ensures made { Brings (λ kept. kept.items) result
+        (kept_in (graph_of graph.now) (map (λ word. word.now) words.now)) }
+    ensures known { IfOk result (λ kept. HaveEnds (graph_of graph.now) kept.items) }
+{
+    let mut kept = Vec::new(alloc);
+    let mut left = words;
+    while let [_, source, target, rest @ ..] = left {
+        let edge = edge_in(alloc, graph, source, target)?;
+        add_edge(&mut kept, edge)?;
+        left = rest;
+    }
+    Ok(kept)
+}
+
+// The question of a text and words, or the report of the first fault.
+pub(crate) fn cut_in(
+    alloc: Global,
+    text: &[u8],
+    right: &str,
+    x: &str,
+    y: &str,
+    kept: &[&str],
+) -> Result<CutQuestion, Halt>
+    ensures made { Brings cut_question_of result
+        (cut_in text.now right.now x.now y.now (map (λ word. word.now) kept.now)) }
+    ensures cuttable { IfOk result (λ question. IsCuttable (cut_question_of question)) }
+{
+    let graph = graph_in(alloc, text)?;
+    let right = right_in(alloc, right)?;
+    let x = name_in(alloc, x)?;
+    let y = name_in(alloc, y)?;
+    let x = vertex_in(alloc, &graph, x)?;
+    let y = vertex_in(alloc, &graph, y)?;
+    let kept = kept_in(alloc, &graph, kept)?;
+    Ok(CutQuestion {
+        graph,
+        right,
+        x,
+        y,
+        kept,
+    })
 }
 
 fn workers_in(alloc: Global, workers: u64) -> Result<u64, Halt>

@@ -1,5 +1,5 @@
 //! Laws of the reports. Each function does nothing: its contract is the law.
-ghost use Rattle.tg_reports.specs.ReportLaws.{CanonicalTextsStay, DerivationsBelowGiveTheRight, DerivationsGiveTheRights, IslandsAreLines, ReachIsARow, ReadDerivationsGiveTheRights, RulesStopAtRefusal, ThereIsOneReport, WhoIsAColumn};
+ghost use Rattle.tg_reports.specs.ReportLaws.{CanonicalTextsStay, CutsFit, CutsMakeItNo, DerivationsBelowGiveTheRight, DerivationsGiveTheRights, IslandsAreLines, ReachIsARow, ReadDerivationsGiveTheRights, RulesStopAtRefusal, ThereIsOneReport, WhoIsAColumn};
 ghost use Rattle.tg_reports.specs.Policies.{KeptExactly, VerdictsAreOne};
 
 use tg_text::laws::equal_graphs_have_one_text;
@@ -21,6 +21,13 @@ pub fn derivations_give_the_rights()
 /// carried out on the same graph, none is refused, and they give the right that breaks the line.
 pub fn derivations_below_give_the_right()
     ensures { DerivationsBelowGiveTheRight }
+{}
+
+/// The report of a cut is a text of its rules, if they are no more than a text may have: carried out on the same
+/// graph, none is refused, and x can't come to have the right then. Without kept edges they are never more.
+pub fn cuts_make_it_no()
+    ensures no { CutsMakeItNo }
+    ensures fit { CutsFit }
 {}
 
 /// What is printed of a graph of at most `MOST_VERTICES` by `check` is printed again as it stands.

@@ -1,6 +1,7 @@
 //! Reports on protection graphs, from texts to texts.
 #![tactic(auto)]
 
+mod cut_lines;
 mod groups;
 mod inputs;
 mod island_lines;

@@ -5,6 +5,7 @@ ghost use Rattle.tg_reports.specs.Readings.{graph_in};
 ghost use Rattle.tg_reports.specs.Reports.{check_report, apply_report, IsReport, IsFor, AreIslandLines, graph_part, rules_part};
 ghost use Rattle.tg_reports.specs.Outcomes.{Brings, Makes, report_text};
 
+use crate::cut_lines::cut;
 use crate::inputs::{graph_in, rules_applied};
 use crate::island_lines::islands_report;
 use crate::outcome::{Halt, Report};
@@ -102,6 +103,7 @@ pub fn report<R: Threads + Sync>(
         Command::Who { rights, y } => who(alloc, first, rights, y),
         Command::Reach { x } => reach(alloc, first, x),
         Command::Verify { why } => verify(alloc, first, second, why),
+        Command::Cut { right, x, y, kept } => cut(alloc, first, right, x, y, kept),
     };
     match made {
         Ok(report) => Ok(report),

@@ -14,7 +14,7 @@ use tg_graph::Rule;
 use tg_text::{append_number, append_rule};
 
 // The line of bytes as a report.
-fn line(alloc: Global, words: &[u8]) -> Result<Report, AllocError>
+pub(crate) fn line(alloc: Global, words: &[u8]) -> Result<Report, AllocError>
     ensures { IfOk result
         (λ report. report_text report ≡ record { bytes = words.now; status = 0 }) }
 {
@@ -58,7 +58,7 @@ pub(crate) fn share(
 }
 
 // Appends the lines of rules.
-fn append_rules(text: &mut Vec<u8>, rules: &[Rule]) -> Result<(), AllocError>
+pub(crate) fn append_rules(text: &mut Vec<u8>, rules: &[Rule]) -> Result<(), AllocError>
     ensures { OnOk result (text.new.items ≡ text.old.items ++ lines_of_rules rules.now) }
 {
     for rule in rules {

@@ -1,12 +1,15 @@
 //! What the command line asks for.
 ghost use Rattle.std.specs.Prelude.{◌≡◌, map};
 ghost use Rattle.std.specs.Option.{option_map};
-ghost use Rattle.tg_reports.specs.Calls.{call_of, call_words, command_of, command_words, graph_command, text_command, texts_call, table_command, two_words_call, question, workers_of};
+ghost use Rattle.tg_reports.specs.Calls.{call_of, call_words, command_of, command_words, graph_command, text_command, texts_call, table_command, two_words_call, question, are_kept, cut_command, workers_of};
 ghost use Rattle.std.specs.Prelude.{◌≤◌, length};
 ghost use Rattle.tg_text.specs.Words.{is_digit, with_digits};
 
 // How many workers make a table where the words do not say it.
 const USUAL_WORKERS: u64 = 4;
+
+// How many edges may be kept.
+const MOST_KEPT: usize = 64;
 
 /// A report to make, with the words of the command line as they were given.
 #[derive(Clone, Copy, PartialEq, Eq, Debug)]
@@ -50,6 +53,14 @@ pub enum Command<'a> {
     /// Whether the graph keeps a policy, and with `why` how it comes that it does not.
     Verify {
         why: bool,
+    },
+    /// Which rights have to go so that x can't come to have the right over y. Edges are kept by three words
+    /// each: `--keep` and the names of its ends.
+    Cut {
+        right: &'a str,
+        x: &'a str,
+        y: &'a str,
+        kept: &'a [&'a str],
     },
 }
 
@@ -176,6 +187,46 @@ fn question<'a>(name: &str, right: &'a str, x: &'a str, y: &'a str) -> Option<Co
             y,
         }),
         "table" => table_command(right, x, y),
+        "cut" => Some(Command::Cut {
+            right,
+            x,
+            y,
+            kept: &[],
+        }),
+        _ => None,
+    }
+}
+
+// Whether the words keep edges: `--keep` and two names for each, and no more of them than may be.
+fn are_kept(words: &[&str]) -> bool
+    ensures { result ≡ are_kept (map (λ word. word.now) words.now) }
+{
+    if words.len() > 3 * MOST_KEPT {
+        return false;
+    }
+    let mut left = words;
+    while let [option, _, _, rest @ ..] = left {
+        if *option != "--keep" {
+            return false;
+        }
+        left = rest;
+    }
+    left.is_empty()
+}
+
+// A question with words behind y.
+fn cut_command<'a>(
+    name: &str,
+    right: &'a str,
+    x: &'a str,
+    y: &'a str,
+    kept: &'a [&'a str],
+) -> Option<Command<'a>>
+    ensures { option_map command_words result
+        ≡ cut_command name.now right.now x.now y.now (map (λ word. word.now) kept.now) }
+{
+    match name {
+        "cut" if are_kept(kept) => Some(Command::Cut { right, x, y, kept }),
         _ => None,
     }
 }
@@ -197,7 +248,7 @@ fn two_words_call<'a>(
 }
 
 /// The call that the words of a command line, its own name left out, ask for.
-pub fn read_words<'a>(words: &[&'a str]) -> Option<Call<'a>>
+pub fn read_words<'a>(words: &'a [&'a str]) -> Option<Call<'a>>
     ensures { option_map call_words result ≡ call_of (map (λ word. word.now) words.now) }
 {
     match words {
@@ -206,6 +257,9 @@ pub fn read_words<'a>(words: &[&'a str]) -> Option<Call<'a>>
         [name, graph, second] => texts_call(name, graph, second),
         [name, graph, second, third] => two_words_call(name, graph, second, third),
         [name, graph, right, x, y] => Some(Call::File(question(name, right, x, y)?, graph)),
+        [name, graph, right, x, y, kept @ ..] => {
+            Some(Call::File(cut_command(name, right, x, y, kept)?, graph))
+        }
         _ => None,
     }
 }
