@@ -19,5 +19,10 @@ fn words_read(rt: HostRuntime) {
     );
     let verify = Call::Files(Command::Verify { why: true }, "g", "p");
     calls_for(&rt, &["verify", "g", "p", "--why"], verify);
+    let right = "r";
+    let kept: &[&str] = &["--keep", "a", "b"];
+    let cut = Call::File(Command::Cut { right, x, y, kept }, "g");
+    let words = ["cut", "g", "r", "a", "c", "--keep", "a", "b"];
+    calls_for(&rt, &words, cut);
     no_call(&rt, &["fly", "g"]);
 }

@@ -3,7 +3,7 @@ use std::alloc::{AllocError, Global};
 use std::process::Abort;
 use std::test::Fail;
 use std::thread::Threads;
-use tg_reports::{Command, report};
+use tg_reports::{Command, read_words, report};
 
 // A first line, and another so many times.
 fn repeated(alloc: Global, first: &[u8], line: &[u8], count: usize) -> Result<Vec<u8>, AllocError> {
@@ -290,4 +290,39 @@ fn tables<R: Abort + Threads + Sync + AllocGlobal>(
 fn a_table_of_version_2(rt: HostRuntime) -> Result<(), Fail> {
     let graph = vertices(rt.alloc(), "version 2\n", 1025, "edge v0 v1 r\n")?;
     tables(&rt, &graph, b"v0 0100", 1_056_690)
+}
+
+// An edge that is kept so many times.
+fn kept(alloc: Global, count: usize) -> Result<Vec<&'static str>, AllocError> {
+    let mut words = Vec::new(alloc);
+    for _ in 0..count {
+        words.extend_from_slice(&["--keep", "a", "b"])?;
+    }
+    Ok(words)
+}
+
+#[test]
+fn edges_kept_many_times(rt: HostRuntime) -> Result<(), Fail> {
+    let kept = kept(rt.alloc(), 64)?;
+    let (right, x, y) = ("r", "a", "c");
+    let command = Command::Cut {
+        right,
+        x,
+        y,
+        kept: &kept,
+    };
+    let graph = b"vertex a\nvertex b\nvertex c\nedge a b t\nedge b c r\n";
+    reports(&rt, command, graph, b"", b"# cut 1\nremove b c r\n", 0)?;
+    Ok(())
+}
+
+#[test]
+fn too_many_edges_kept(rt: HostRuntime) -> Result<(), Fail> {
+    for (count, is_call) in [(64, true), (65, false)] {
+        let mut words = Vec::from_slice(rt.alloc(), &["cut", "g", "r", "a", "c"])?;
+        let kept = kept(rt.alloc(), count)?;
+        words.extend_from_slice(&kept)?;
+        assert!(rt; read_words(&words).is_some() == is_call);
+    }
+    Ok(())
 }

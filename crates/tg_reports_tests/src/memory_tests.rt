@@ -85,6 +85,20 @@ fn refused_questions_about_one_vertex(rt: HostRuntime) -> Result<(), Fail> {
 }
 
 #[test]
+fn refused_cuts(rt: HostRuntime) -> Result<(), Fail> {
+    let (right, x, y) = ("r", "a", "c");
+    let none: &[&str] = &[];
+    let one: &[&str] = &["--keep", "a", "b"];
+    for (kept, wanted) in [
+        (none, b"# cut 1\nremove a b g\n".as_slice()),
+        (one, b"# cut 1\nremove b c r\n"),
+    ] {
+        reports(&rt, Command::Cut { right, x, y, kept }, b"", wanted)?;
+    }
+    Ok(())
+}
+
+#[test]
 fn refused_policies(rt: HostRuntime) -> Result<(), Fail> {
     let policy = b"group g b a\nonly r c @g\nmay r @g c\nnever w @g c\n";
     let kept = b"2 holds\n3 holds\n4 holds\nkept\n";
