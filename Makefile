@@ -58,6 +58,7 @@ demo: build
 	@$(call show,who $(GRAPH) r payroll)
 	@$(call show,reach $(GRAPH) client)
 	@$(call show,verify $(GRAPH) $(FILES).policy --why) || [ $$? -eq 1 ]
+	@$(call show,cut $(GRAPH) r client payroll)
 	@$(call show,run $(GRAPH) $(FILES).script)
 
 examples: build
@@ -76,6 +77,10 @@ examples: build
 	@$(OFFICER) verify $(GRAPH) $(FILES).policy --why | diff - $(FILES).verify.out
 	@grep -v 'client clerk t' $(GRAPH) | $(OFFICER) verify /dev/stdin $(FILES).policy | diff - $(FILES).kept.out
 	@$(OFFICER) verify $(GRAPH) $(FILES).policy > /dev/null; [ $$? -eq 1 ]
+	@$(OFFICER) cut $(GRAPH) r client payroll | diff - $(FILES).cut.out
+	@$(OFFICER) cut $(GRAPH) r client payroll --keep client clerk | diff - $(FILES).farther.out
+	@$(OFFICER) cut $(GRAPH) r client payroll --keep client clerk --keep service clerk --keep service payroll | diff - $(FILES).none.out
+	@$(OFFICER) apply $(GRAPH) $(FILES).cut.out | sed '1,/^graph$$/d' | $(OFFICER) share /dev/stdin r client payroll | grep -qx no
 	@$(OFFICER) run $(GRAPH) $(FILES).script | diff - $(FILES).script.out
 	@$(OFFICER) race $(GRAPH) $(FILES).race.script | diff - $(FILES).race.out
 	@tools/from_rbac $(SHOP).json | diff - $(SHOP).graph
@@ -90,6 +95,7 @@ examples: build
 	@$(OFFICER) share $(SHOP).trusted.graph r shop_team payment_key | diff - $(SHOP).trusted.out
 	@$(OFFICER) who $(SHOP).trusted.graph r payment_key | diff - $(SHOP).who.out
 	@$(OFFICER) reach $(SHOP).trusted.graph shop_team | diff - $(SHOP).reach.out
+	@$(OFFICER) cut $(SHOP).trusted.graph r runner payment_key | diff - $(SHOP).cut.out
 	@$(OFFICER) verify $(SHOP).trusted.graph $(SHOP).first.policy | diff - $(SHOP).first.out
 	@$(OFFICER) verify $(SHOP).trusted.graph $(SHOP).policy | diff - $(SHOP).verify.out
 	@$(OFFICER) verify $(SHOP).trusted.graph $(SHOP).policy > /dev/null
@@ -98,6 +104,7 @@ examples: build
 	@$(OFFICER) islands $(KERNEL).graph | diff - $(KERNEL).islands.out
 	@$(OFFICER) share $(KERNEL).graph r nic_driver keys | diff - $(KERNEL).share.out
 	@$(OPEN_KERNEL) | $(OFFICER) derive /dev/stdin r nic_driver keys | diff - $(KERNEL).derive.out
+	@$(OPEN_KERNEL) | $(OFFICER) cut /dev/stdin r nic_driver keys | diff - $(KERNEL).cut.out
 	@bash -c 'diff <(python3 $(TILLS).py | $(OFFICER) check /dev/stdin) <(python3 $(TILLS).py)'
 	@python3 $(TILLS).py | $(OFFICER) derive /dev/stdin d till_17_04 ledger_17 | diff - $(TILLS).derive.out
 	@$(TILLS_APART) | $(OFFICER) share /dev/stdin d till_17_04 ledger_17 | diff - $(TILLS).share.out
@@ -118,8 +125,10 @@ $(call $(1),web_shop,cat $(SHOP).graph)
 $(call $(1),web_shop.team,cat $(SHOP).graph,--derive r shop_team payment_key)
 $(call $(1),web_shop.runner,cat $(SHOP).trusted.graph,--derive r runner payment_key)
 $(call $(1),web_shop.share,cat $(SHOP).trusted.graph,--share r payment_key)
+$(call $(1),web_shop.cut,cat $(SHOP).trusted.graph,--cut r runner payment_key)
 $(call $(1),microkernel,cat $(KERNEL).graph)
 $(call $(1),microkernel.derive,$(OPEN_KERNEL),--derive r nic_driver keys)
+$(call $(1),microkernel.cut,$(OPEN_KERNEL),--cut r nic_driver keys)
 $(call $(1),tills.derive,python3 $(TILLS).py,--derive d till_17_04 ledger_17)
 $(call $(1),cluster,python3 bench/cluster.py 840 | tools/from_rbac $(LESS_OF_CLUSTER))
 endef

@@ -103,6 +103,18 @@ def chain(count, right, held="r"):
     return vertices(count) + links + f"edge v{count - 2} v{count - 1} {held}\n"
 
 
+def tied(count, edges, ties, holders):
+    """Some such number of edges: so many links from one vertex to the others, which are an island, dense with links; so
+    many of these hold a right over the last vertex."""
+    inner = count - 2
+    step = -(-inner * inner // edges)
+    links = ((i, j) for i in range(inner) for j in range(i * step // inner, inner, step))
+    lines = [f"edge v0 v{i + 1} t\n" for i in range(ties)]
+    lines += (f"edge v{i + 1} v{j + 1} t\n" for i, j in links)
+    lines += (f"edge v{inner - i} v{count - 1} r\n" for i in range(holders))
+    return vertices(count) + "".join(lines)
+
+
 def star(count):
     """One vertex has take and grant over all."""
     return vertices(count) + "".join(f"edge v0 v{i} tg\n" for i in range(count))
@@ -197,6 +209,11 @@ def workloads(count):
     yield "who", MANY, "edges", edges, None, ["who", "r", last]
     yield "reach", MANY, "edges", edges, None, ["reach", "v0"]
     yield "who of few edges", 4 * count, "edges", sparse(count, 4 * count), None, ["who", "r", last]
+    few_ties, few_holders = tied(count, MANY, 10, count - 2), tied(count, MANY, 600, 300)
+    yield "cut of 10 edges", MANY, "edges", few_ties, None, ["cut", "r", "v0", last]
+    yield "share of that graph", MANY, "edges", few_ties, None, ["share", "r", "v0", last]
+    yield "cut of 300 edges", MANY, "edges", few_holders, None, ["cut", "r", "v0", last]
+    yield "share of this graph", MANY, "edges", few_holders, None, ["share", "r", "v0", last]
     yield "verify", 10000, "lines", edges, policy(count, 10000), ["verify"]
     yield "verify of few edges", 10000, "lines", sparse(count, 4 * count), policy(count, 10000), ["verify"]
     yield "verify with a group of all", 10000, "lines", edges, policy_of_all(count, 10000), ["verify"]

@@ -6,13 +6,14 @@ of the one version or the other, and rules, a script, a policy or words for it. 
 them: bytes are flipped, lines dropped, doubled or swapped, words replaced, numbers put at their
 limits, versions named where none may be. The kinds of cases:
 
-- `check`, `case`, `apply`, `islands`, `share`, `derive`, `table`, `who`, `reach`, `verify`, `run`:
-  report and status are the model's, which reads docs/TEXTS.md alone; so the first fault, its line
-  and its kind are, too.
+- `check`, `case`, `apply`, `islands`, `share`, `derive`, `table`, `who`, `reach`, `verify`, `cut`,
+  `run`: report and status are the model's, which reads docs/TEXTS.md alone; so the first fault, its
+  line and its kind are, too.
 - besides, `check` prints again what it printed, and the graph that `apply` printed; `apply`
   accepts each rule that `derive` printed, and the right is there then; `share` says of a pair what
   its cell in the table, `who` and `reach` say, and whether `verify` lets a line with `may` hold;
-  `derive` prints what stands below a line of `verify --why`.
+  `derive` prints what stands below a line of `verify --why`; `apply` accepts each rule that `cut`
+  printed, `share` says no then, and it says yes where one of their rights was left.
 - `race`: with one seat it prints what `run` prints; else the report obeys the laws of a race.
 - `words`: a command line has one of the forms, or it is a bad one.
 - `limits`: texts with as many vertices, rules, events, commits or lines of a policy as there may

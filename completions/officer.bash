@@ -21,13 +21,20 @@ _officer() {
     local IFS=$' \t\n' word=${COMP_WORDS[COMP_CWORD]-} command=${COMP_WORDS[1]-} graph=${COMP_WORDS[2]-}
     COMPREPLY=()
     case $COMP_CWORD:$command in
-        1:*) _officer_words 'check apply islands share derive table who reach verify run race' "$word" ;;
-        2:check | 2:islands | 2:share | 2:derive | 2:table | 2:who | 2:reach) _officer_files "$word" ;;
+        1:*) _officer_words 'check apply islands share derive table who reach verify cut run race' "$word" ;;
+        2:check | 2:islands | 2:share | 2:derive | 2:table | 2:who | 2:reach | 2:cut) _officer_files "$word" ;;
         [23]:apply | [23]:run | [23]:race | [23]:verify) _officer_files "$word" ;;
-        3:share | 3:derive | 3:table | 3:who) _officer_words 't g r w e a d' "$word" ;;
+        3:share | 3:derive | 3:table | 3:who | 3:cut) _officer_words 't g r w e a d' "$word" ;;
         [45]:share | [45]:derive | 4:who | 3:reach) _officer_words "$(_officer_vertices "$graph")" "$word" ;;
         4:verify) _officer_words '--why' "$word" ;;
         4:table) _officer_words '--workers' "$word" ;;
+        *:cut)
+            if ((COMP_CWORD % 3)); then
+                _officer_words "$(_officer_vertices "$graph")" "$word"
+            else
+                _officer_words '--keep' "$word"
+            fi
+            ;;
         5:table) _officer_words '1 2 3 4 5 6 7 8 9 10 11 12 13 14 15 16' "$word" ;;
     esac
 }

@@ -222,6 +222,24 @@ def reach_case(program, make):
         require_share(program, graph, [right, x, y], right in letters)
 
 
+def require_answer_after(program, graph, rules, question, is_yes):
+    """Requires `apply` to accept rules that take rights away, and `share` to say yes or no then."""
+    text = require_report(program, b"apply", [graph, rules])
+    require_same("apply of cut", text is not None, True)
+    require_share(program, text.partition(b"graph\n")[2], question, is_yes)
+
+
+def cut_case(program, make):
+    """`cut`, and `share` after its rules, and after them with one of their rights left."""
+    question = [make.spoil.word(word, 0.05) for word in make.question(make.right())]
+    keeping = make.keeping()
+    graph = make.spoil.text(make.graph_text(), 0.1)
+    rules = require_report(program, b"cut", [graph], [*question, *keeping])
+    if rules is not None and rules != b"# no\n":
+        require_answer_after(program, graph, rules, question, False)
+        require_answer_after(program, graph, make.with_one_less(rules), question, True)
+
+
 def verify_case(program, make):
     """`verify`, and of one of the derivations in its report `derive` and `apply`."""
     texts = make.spoil.one_of(make.graph_and_policy(), 0.3)
@@ -307,6 +325,7 @@ KINDS = {
     "who": (who_case, 6),
     "reach": (reach_case, 6),
     "verify": (verify_case, 20),
+    "cut": (cut_case, 16),
     "run": (run_case, 16),
     "race": (race_case, 12),
     "words": (words_case, 8),

@@ -11,7 +11,7 @@ NAMES = ["a", "b", "c", "d", "e", "f", "_0", "_1", "_2", "v10", "z_9", "_", "abc
 FRESH = ["n", "m", "p0", "_3", "_10", "q"]
 SPACES = [" ", " ", " ", " ", " ", "  ", "\t", " \r", "\r\t "]
 FILLERS = ["", "#", "# vertex a", "  # x", "\t", " \r"]
-COMMANDS = "check islands apply run race table share derive who reach verify".split()
+COMMANDS = "check islands apply run race table share derive who reach verify cut".split()
 # The line that names each version, and the most vertices that it has room for.
 LINES_OF_VERSIONS = [
     (b"", FIRST.most_vertices),
@@ -111,6 +111,26 @@ class Maker:
         number = self.chance.choice(numbers)
         return [option.encode(), number.encode()]
 
+    def keeping(self):
+        """The words that keep edges, most of them edges of the graph; or none."""
+        if self.chance.random() < 0.4:
+            return []
+        words, pairs = [], sorted(self.graph.edges)
+        for _ in range(self.chance.choice([1, 1, 2, 3, 5, 64])):
+            is_edge = pairs and self.chance.random() < 0.9
+            ends = self.chance.choice(pairs) if is_edge else (self.name(), self.name())
+            words += [b"--keep", *(self.spoil.word(end.encode(), 0.01) for end in ends)]
+        return words
+
+    def with_one_less(self, rules):
+        """The text of rules that take rights away, but for one of the rights."""
+        header, *lines = rules.decode().splitlines(True)
+        place = self.chance.randrange(len(lines))
+        *words, rights = lines[place].split()
+        left = rights.replace(self.chance.choice(rights), "")
+        lines[place] = " ".join([*words, left]) + "\n" if left else ""
+        return "".join([header, *lines]).encode()
+
     # texts
 
     def text(self, lines):
@@ -206,12 +226,14 @@ class Maker:
         forms = {b"check": [], b"islands": [], b"apply": [graph], b"run": [graph], b"race": [graph]}
         forms.update({b"share": ask, b"derive": ask, b"table": [b"r", b"--workers", b"3"]})
         forms.update({b"who": [b"r", b"a"], b"reach": [b"a"], b"verify": [graph, b"--why"]})
+        keeping = [b"--keep", b"a", b"b"] * self.chance.choice([0, 1, 2, 64, 65])
+        forms[b"cut"] = [b"r", b"a", b"b", *keeping]
         command = self.chance.choice(sorted(forms))
         return [command, graph, *forms[command]]
 
     def words(self, files):
         """The words of a command line, good or bad, with one of the files or several."""
-        pool = "r t a b --workers 4 16 Check --help --why".split() + COMMANDS + ["", "\xe9"]
+        pool = "r t a b --workers 4 16 Check --help --why --keep".split() + COMMANDS + ["", "\xe9"]
         pool = [word.encode() for word in pool] + [b"\xff", b"\xe2\x82"] + files * 3
         words = self.form(files[0] if self.chance.random() < 0.8 else self.chance.choice(files))
         way = self.chance.randrange(6)
@@ -244,6 +266,8 @@ class Maker:
         ends = [rights, b"v0", f"v{count - 1}".encode()]
         further = {"check": [], "islands": [], "share": ends, "derive": ends, "table": [b"w"]}
         further.update({"who": [rights, ends[2]], "reach": [b"v0"]})
+        keeping = [b"--keep", b"v0", b"v1"] * self.chance.choice([0, 1])
+        further["cut"] = [b"w", *ends[1:], *keeping]
         command = self.chance.choice(sorted(further))
         return command.encode(), [version + self.text(lines)], further[command]
 

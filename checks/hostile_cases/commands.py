@@ -56,10 +56,11 @@ FURTHER = {
     b"who": [b"r", b"c"],
     b"reach": [b"a"],
     b"verify": [b"--why"],
+    b"cut": [*QUESTION, b"--keep", b"a", b"b"],
 }
 SECOND = {b"apply": RULES, b"run": SCRIPT, b"race": SCRIPT, b"verify": POLICY}
 COMMANDS = [b"", b"check", b"apply", b"islands", b"share", b"derive", b"table", b"run", b"race"]
-COMMANDS += [b"who", b"reach", b"verify"]
+COMMANDS += [b"who", b"reach", b"verify", b"cut"]
 # The word for the second text in reports.
 SECOND_TITLES = {b"apply": "rules", b"run": "script", b"race": "script", b"verify": "policy"}
 
@@ -151,6 +152,13 @@ def chain():
     return "".join([*vertices(), *links, f"edge v{last} v0 d\n"]).encode()
 
 
+def many_holders():
+    """The text of a graph in which one vertex is linked with all others, which hold a right."""
+    numbers = range(2, MOST_VERTICES)
+    edges = (f"edge v0 v{i} tg\nedge v{i} v0 r\nedge v{i} v1 r\n" for i in numbers)
+    return "".join([*vertices(), *edges]).encode()
+
+
 def long_names():
     """The text of a graph without edges whose names are as long as may be."""
     return "".join(vertices("v{:015}")).encode()
@@ -240,6 +248,7 @@ def large_loads(files):
     yield load(files, "large", b"who", star(), further=[b"tg", b"v1"])
     yield load(files, "large", b"reach", star(), further=[b"v1"])
     yield load(files, "large", b"verify", chain(), chain_policy(256, 2048, chance))
+    yield load(files, "large", b"cut", many_holders(), further=[b"r", b"v0", b"v1"])
 
 
 @lru_cache

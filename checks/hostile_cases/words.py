@@ -19,6 +19,13 @@ table G r --workers ''|table G r --workers ' 4'|'check ' G|''|'' ''|'' check G|c
 who|who G|who G r|who G r a c|who r a|reach|reach G|reach G a c|reach a|reach G r a|verify|verify G
 verify G G G|verify G G -why|verify G G --Why|verify G G --why=|verify G G ''|verify G G --why --why
 verify G --why G|verify --why G G|verify G G --workers 4|who G r a --why|verify G G --wh\u0443
+cut|cut G|cut G r|cut G r a|cut r a c|cut G r a c c|cut G r a c --keep|cut G r a c --keep a
+cut G r a c --keep a b c|cut G r a c --kept a b|cut G r a c -keep a b|cut G r a c --Keep a b
+cut G r a c --keep=a b c|cut G r a c a --keep b|cut G r a c a b --keep|cut --keep a b G r a c
+cut G --keep a b r a c|cut G r a c --keep a b --keep|cut G r a c --keep a b --keep a
+cut G r a c --keep a b --kept a b|cut G r a c --keep a b a b --keep|cut G r a c --ke\u0435p a b
+cut G r a c --workers 4|cut G r a c --why|share G r a c --keep a b|derive G r a c --keep a b
+table G r --keep a b|verify G G --keep a b
 """
 # What stands behind the graph of a question, good or bad.
 QUESTIONS = """
@@ -34,6 +41,15 @@ r abcdefghijklmnop|r abcdefghijklmnopq|r 9a|r @c|r c@
 # What stands behind the graph where it is asked what a vertex can come to, good or bad.
 VERTICES = """
 a|b|c|d|A|''|z|\u00e9|abcdefghijklmnop|abcdefghijklmnopq|9a|@a|-|r
+"""
+# What stands behind the graph where it is asked what has to go, good or bad.
+CUTS = """
+r a c|w a c|t a b|g d c|r a a|a a c|- a c|'' a c|rw a c|q a c|R a c|r A c|r a C|r z A|r z y|r a z
+r a c --keep a b|r a c --keep b c|r a c --keep a b --keep b c|r a c --keep b a|r a c --keep d d
+r a c --keep a b --keep a b|r a c --keep '' b|r a c --keep a ''|r a c --keep a z|r a c --keep z a
+r a c --keep z A|r a c --keep a z --keep A b|r a c --keep A b --keep a z|r a z --keep A b
+q a c --keep A b|r a c --keep --keep b|r a c --keep a --keep|r a c --keep a \u00e9
+r abcdefghijklmnop c|r a abcdefghijklmnopq|r a c --keep a abcdefghijklmnopq
 """
 # What stands behind the graph of a table, good or bad.
 TABLES = """
@@ -54,6 +70,9 @@ def bad_line_cases(files):
     for line, words in lines_in(BAD_LINES):
         words = [graph if word == b"G" else word for word in words]
         yield Case(f"words: {line}", words, [Says("words")])
+    for count in 65, 1000:
+        words = [b"cut", graph, *QUESTION, *[b"--keep", b"a", b"b"] * count]
+        yield Case(f"words: cut, and {count} edges kept", words, [Says("words")])
 
 
 def untold_word_cases(files):
@@ -73,11 +92,15 @@ def question_cases(files):
     long_words = [QUESTION[:i] + [LONG_WORD] + QUESTION[i + 1 :] for i in range(len(QUESTION))]
     questions = [*lines_in(QUESTIONS)] + [(f"long {i}", it) for i, it in enumerate(long_words)]
     one_long = ("long", [LONG_WORD])
+    keep = [b"--keep", b"a", b"b"]
+    kept = [(f"kept {count} times", [*QUESTION, *keep * count]) for count in (63, 64)]
+    kept.append(("long kept", [*QUESTION, b"--keep", b"a", LONG_WORD]))
     cases = [
         *product((b"share", b"derive"), questions),
         *product([b"who"], [*lines_in(LOOKUPS), ("long", [b"r", LONG_WORD])]),
         *product([b"reach"], [*lines_in(VERTICES), one_long]),
         *product([b"table"], [*lines_in(TABLES), one_long]),
+        *product([b"cut"], [*lines_in(CUTS), *kept]),
     ]
     for command, (line, further) in cases:
         ending = ending_for(command, GRAPH, further=further)
@@ -91,6 +114,8 @@ def option_path_cases(files):
     causes = {(graph, b"--why"): "second file", (b"--why", graph): "graph"}
     for paths, cause in causes.items():
         yield Case(f"words: verify, and --why for the {cause}", [b"verify", *paths], [Says(cause)])
+    words = [b"cut", b"--keep", *QUESTION]
+    yield Case("words: cut, and --keep for the graph", words, [Says("graph")])
 
 
 def long_path_cases(files):

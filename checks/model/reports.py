@@ -2,6 +2,7 @@
 import re
 from functools import partial
 
+from model.cuts import least_cut
 from model.graphs import letters_of
 from model.policies import first_break, read_policy
 from model.sessions import Hall
@@ -9,6 +10,7 @@ from model.texts import TextFault, is_name, is_right, is_rights
 from model.texts import parts_of, read_graph, read_rules, read_script
 
 MOST_WORKERS = 16
+MOST_KEPT = 64
 WORKERS = re.compile(rb"[0-9]{1,4}")
 # The numbers of words that each command may have, its own included.
 WORD_COUNTS = {
@@ -23,6 +25,7 @@ WORD_COUNTS = {
     b"who": (4,),
     b"reach": (3,),
     b"verify": (3, 4),
+    b"cut": range(5, 6 + 3 * MOST_KEPT, 3),
 }
 WITH_SECOND_FILE = (b"apply", b"run", b"race", b"verify")
 
@@ -39,6 +42,8 @@ def is_call(words):
         return False
     if words[0] == b"verify":
         return words[3:] in ([], [b"--why"])
+    if words[0] == b"cut":
+        return all(word == b"--keep" for word in words[5::3])
     if words[0] != b"table" or len(words) == 3:
         return True
     return words[3] == b"--workers" and WORKERS.fullmatch(words[4]) is not None
@@ -132,6 +137,18 @@ def reach(text, word):
     return "".join(f"{y} {letters_of(rights)}\n" for y, rights in found), 0
 
 
+def cut(text, right, x, y, *keeping):
+    """The report of `cut`."""
+    graph = read(read_graph, "graph", text)
+    right, pair = right_in(right), vertices_in(graph, [x, y])
+    ends = (keeping[at + 1 : at + 3] for at in range(0, len(keeping), 3))
+    kept = {tuple(vertices_in(graph, words)) for words in ends}
+    rules = least_cut(graph, right, *pair, kept)
+    if rules is None:
+        return "# none\n", 1
+    return f"# cut {len(rules)}\n" + "".join(rules) if rules else "# no\n", 0
+
+
 def verify(text, policy_text, why=None):
     """The report of `verify`."""
     graph = read(read_graph, "graph", text)
@@ -202,6 +219,7 @@ REPORTS = {
     b"who": who,
     b"reach": reach,
     b"verify": verify,
+    b"cut": cut,
 }
 
 
