@@ -1,5 +1,5 @@
 -- What the words of a question for a cut give, what its report says, and that there is one report.
-use Rattle.std.proofs.Common.{◌≡◌, ◌<◌, ◌≤◌, ◌^◌, inl, inr, ℕ, Bool, true, false, not, nat_lt, if◌then◌else◌, IsTrue, List, [], ◌∷◌, ◌++◌, length, Option, Some, None, Result, Ok, Err, refl, sym, ap, subst, ◌∙◌, append_assoc, arith}
+use Rattle.std.proofs.Common.{◌≡◌, ◌<◌, ◌≤◌, ◌^◌, inl, inr, ℕ, Bool, true, false, not, nat_lt, if◌then◌else◌, IsTrue, List, [], ◌∷◌, ◌++◌, length, map, drop, get_or, Option, Some, None, Result, Ok, Err, refl, sym, ap, subst, ◌∙◌, append_assoc, arith}
 use Rattle.std.specs.Prelude.{codes}
 use Rattle.std.proofs.lemmas.Bool.{le-ltb}
 use Rattle.std.proofs.lemmas.List.{append-nil}
@@ -57,6 +57,22 @@ kept_from-onto g (option ∷ source ∷ target ∷ rest) done = from_edge g rest
 
 pub kept_from-none : (g : ProtectionGraph) (words : List (List ℕ)) → kept_from g [] words ≡ kept_in g words
 kept_from-none g words = kept_from-onto g words [] ∙ onto-none (kept_in g words)
+
+-- three words name one edge more
+pub kept_from-more : {A : Type 0} (g : ProtectionGraph) (word : A → List ℕ) (other : A) (left : List A) (done : List Ends) (edge : Ends) → 2 < length left → edge_in g (word (get_or left 1 other)) (word (get_or left 2 other)) ≡ Ok edge
+    → kept_from g (done ++ edge ∷ []) (map word (drop 3 left)) ≡ kept_from g done (map word left)
+kept_from-more g word other [] done edge long made = absurd (omega arith)
+kept_from-more g word other (option ∷ []) done edge long made = absurd (omega arith)
+kept_from-more g word other (option ∷ source ∷ []) done edge long made = absurd (omega arith)
+kept_from-more g word other (option ∷ source ∷ target ∷ rest) done edge long made =
+    sym (ap (λ (r : Result Ends ReportText). r >>= λ e. kept_from g (done ++ e ∷ []) (map word rest)) made)
+
+-- fewer words name none
+pub kept_from-end : {A : Type 0} (g : ProtectionGraph) (word : A → List ℕ) (left : List A) (done : List Ends) → length left < 3 → kept_from g done (map word left) ≡ Ok done
+kept_from-end g word [] done few = refl
+kept_from-end g word (option ∷ []) done few = refl
+kept_from-end g word (option ∷ source ∷ []) done few = refl
+kept_from-end g word (option ∷ source ∷ target ∷ rest) done few = absurd (omega arith)
 
 -- ---- their ends are vertices
 pub ends-none : (g : ProtectionGraph) → HaveEnds g []
@@ -125,7 +141,7 @@ pub record IsRead (q : CutQuestion) : Type 0 where
   pub to : IsTrue (has_vertex q.graph q.y)
 
 -- a name that was found to be a vertex
-vertex_there : (g : ProtectionGraph) (a u : Name) → vertex_in g a ≡ Ok u → has_vertex g u ≡ true
+pub vertex_there : (g : ProtectionGraph) (a u : Name) → vertex_in g a ≡ Ok u → has_vertex g u ≡ true
 vertex_there g a u e = by (has_vertex g a) refl e
   where
     by : (b : Bool) → has_vertex g a ≡ b → (if b then Ok a else Err (refusal (codes "unknown" ∷ a ∷ []))) ≡ Ok u → has_vertex g u ≡ true

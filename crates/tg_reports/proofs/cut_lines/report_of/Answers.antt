@@ -1,6 +1,18 @@
-use Rattle.tg_reports.specs.Outcomes.{report_text, cut_question_of}
+use Rattle.std.proofs.Common.{◌≡◌, List, Result, Ok, Err, subst}
+use Rattle.std.specs.Prelude.{IfOk}
+use Rattle.tg_graph.specs.declared.rules.Rule.{Rule}
+use Rattle.tg_cuts.specs.Cuts.{IsTheCut}
+use Rattle.tg_reports.specs.declared.outcome.Report.{Report}
+use Rattle.tg_reports.specs.Readings.{CutQuestion}
+use Rattle.tg_reports.specs.Reports.{IsCut}
+use Rattle.tg_reports.specs.Outcomes.{report_text, cut_text, cut_question_of}
 use Rattle.tg_reports.proofs.CutReports.{cut_told}
 use Rattle.tg_reports.proofs.cut_lines.report_of.Goals as goal
 
+-- the report of a cut that was found, if there was memory for it
+found_told : {E : Type 0} (q : CutQuestion) (rules cut : List Rule) (made : Result Report E) → rules ≡ cut → IsTheCut q.graph q.right q.x q.y q.kept cut → IfOk made (λ report. report_text report ≡ cut_text rules) → IfOk made (λ report. IsCut q (report_text report))
+found_told q rules cut (Ok report) same is told = cut_told q cut (report_text report) is (subst (λ (given : List Rule). report_text report ≡ cut_text given) same told)
+found_told q rules cut (Err fault) same is told = told
+
 pub returns-in-Some : goal.returns-in-Some
-returns-in-Some c = cut_told (cut_question_of c.args.question.now) c.in-Some.rules.items (report_text c.in_ok-found.report) c.in_ok-rules_of.ensures c.in_ok-found.ensures
+returns-in-Some c = found_told (cut_question_of c.args.question.now) c.deref.result.now c.in-Some.rules.items c.found.result c.deref.ensures.value c.in-Some.ensures c.found.ensures
