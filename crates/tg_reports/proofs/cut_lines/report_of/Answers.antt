@@ -1,7 +1,7 @@
-use Rattle.std.proofs.Common.{◌≡◌, List, Result, Ok, Err, subst}
-use Rattle.std.specs.Prelude.{IfOk}
+use Rattle.std.proofs.Common.{◌≡◌, List, Option, Vec, Result, Ok, Err, subst}
+use Rattle.std.specs.Prelude.{IfOk, MatchOption}
 use Rattle.tg_graph.specs.declared.rules.Rule.{Rule}
-use Rattle.tg_cuts.specs.Cuts.{IsTheCut}
+use Rattle.tg_cuts.specs.Cuts.{IsTheCut, HasNoCut}
 use Rattle.tg_reports.specs.declared.outcome.Report.{Report}
 use Rattle.tg_reports.specs.Readings.{CutQuestion}
 use Rattle.tg_reports.specs.Reports.{IsCut}
@@ -15,4 +15,7 @@ found_told q rules cut (Ok report) same is told = cut_told q cut (report_text re
 found_told q rules cut (Err fault) same is told = told
 
 pub returns-in-Some : goal.returns-in-Some
-returns-in-Some c = found_told (cut_question_of c.args.question.now) c.deref.result.now c.in-Some.rules.items c.found.result c.deref.ensures.value c.in-Some.ensures c.found.ensures
+returns-in-Some c =
+    let q = cut_question_of c.args.question.now in
+    let is = subst (λ (cut : Option (Vec Rule)). MatchOption cut (HasNoCut q.graph q.right q.x q.y q.kept) (λ rules. IsTheCut q.graph q.right q.x q.y q.kept rules.items)) c.in-Some.is c.in_ok-rules.ensures in
+    found_told q c.deref.result.now c.in-Some.rules.items c.found.result c.deref.ensures.value is c.found.ensures

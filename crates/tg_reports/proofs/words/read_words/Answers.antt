@@ -1,6 +1,6 @@
-use Rattle.std.proofs.Common.{◌≡◌, ℕ, Bor, Option, Some, None, List, [], ◌∷◌, map, length, get_or, refl, sym, ap, ◌∙◌, arith}
+use Rattle.std.proofs.Common.{◌≡◌, ℕ, Bor, Option, None, List, [], ◌∷◌, map, length, get_or, refl, sym, ap, ◌∙◌, arith}
 use Rattle.std.specs.Option.{option_map}
-use Rattle.tg_reports.specs.Calls.{CommandWords, CallWords, File, call_of, call_words, command_words, graph_command, question}
+use Rattle.tg_reports.specs.Calls.{CommandWords, File, call_of, call_words, command_words, graph_command, question}
 use Rattle.tg_reports.proofs.words.read_words.Goals as goal
 
 -- what two words ask for
@@ -26,13 +26,12 @@ returns-in_err-graph_command-in-len2 c =
     let word = λ (w : Bor (List ℕ)). w.now in
     let words = c.args.words.now in
     let none : graph_command (word (get_or words 0 record { ref_ptr = (0, 0); now = [] })) ≡ None = sym c.graph_command.ensures ∙ ap (option_map command_words) c.in_err-graph_command-in-len2.was in
-    let said = two_words word record { ref_ptr = (0, 0); now = [] } words (omega arith) in
-    let made : Option CallWords = option_map (λ c. File c (word (get_or words 1 record { ref_ptr = (0, 0); now = [] }))) None in
-    ?
+    let F = λ (o : Option CommandWords). option_map (λ (m : CommandWords). File m (word (get_or words 1 record { ref_ptr = (0, 0); now = [] }))) o in
+    ap (option_map call_words) c.from_residual.ensures ∙ sym (two_words word record { ref_ptr = (0, 0); now = [] } words (omega arith) ∙ ap F none)
 
 pub returns-in_ok-question-in-len5 : goal.returns-in_ok-question-in-len5
 returns-in_ok-question-in-len5 c =
     let word = λ (w : Bor (List ℕ)). w.now in
     let words = c.args.words.now in
     let F = λ (o : Option CommandWords). option_map (λ (m : CommandWords). File m (word (get_or words 1 record { ref_ptr = (0, 0); now = [] }))) o in
-    sym (five_words word record { ref_ptr = (0, 0); now = [] } words (omega arith) ∙ ap F c.in_ok-question-in-len5.ensures)
+    sym (five_words word record { ref_ptr = (0, 0); now = [] } words (omega arith) ∙ ap F (sym c.question.ensures ∙ ap (option_map command_words) c.in_ok-question-in-len5.was))
