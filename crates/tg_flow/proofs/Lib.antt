@@ -1,3 +1,4 @@
+pub mod PackedWays
 pub mod Tallies
 pub mod Passages
 pub mod Changes

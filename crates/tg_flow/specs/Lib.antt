@@ -1,5 +1,6 @@
 pub mod Edges
 pub mod Packed
+pub mod PackedSteps
 pub mod Flows
 pub mod Ways
 pub mod Sending

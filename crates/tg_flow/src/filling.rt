@@ -41,7 +41,7 @@ impl Network {
 
     // Searches from the end, backwards, until x is met, or nothing is left; first at the edges into y.
     fn search_to_end(&self, kept_alone: bool, x: usize, y: usize) -> Result<Ways, AllocError>
-        ensures { IfOk result (λ ways. IsOver (to_end self.now kept_alone x) ways.steps.items) }
+        ensures { IfOk result (λ ways. IsOver (to_end self.now kept_alone x) ways) }
     {
         let search = Search {
             network: self,
@@ -78,7 +78,7 @@ impl Network {
     /// first.
     ///
     /// Each unit takes one search, of at most a pass over the edges, and there are a few passes more. The
-    /// searches look first at the edges into y; it decides no answer. They take some 60 bytes a position.
+    /// searches look first at the edges into y; it decides no answer. One takes 10 bytes a position.
     ///
     /// The one error is want of memory: some units may have gone then, which the next call takes back.
     pub fn fill(&mut self, x: usize, y: usize) -> Result<Option<usize>, AllocError>

@@ -9,6 +9,7 @@ pub mod laws;
 mod listing;
 mod network;
 mod packed;
+mod packed_steps;
 mod searches;
 mod sending;
 mod sides;

@@ -12,7 +12,7 @@ use std::marker::Model;
 
 /// Edges between so many positions, each with a number: the first has 0, and the next one more.
 ///
-/// It takes 4 bytes an edge, and once it is filled 4 more, and 8 a position.
+/// It takes 4 bytes an edge, and once it is filled 4 more, and 4 a position.
 #[derive(Drop)]
 pub struct Network {
     edges: Vec<PackedEdge>,
@@ -125,9 +125,12 @@ impl Network {
         Ok(())
     }
 
-    /// From which number to which the edges out of a position go, as far as that was noted.
+    /// From which number to which the edges out of a position go, where edges rise by their sources.
     pub(crate) fn numbers_out(&self, position: usize) -> (usize, usize) {
-        self.listing.numbers_out(position)
+        let edges = self.edges.as_slice();
+        let first = edges.partition_point(|edge| edge.source() < position);
+        let end = edges.partition_point(|edge| edge.source() <= position);
+        (first, end)
     }
 
     /// The numbers of the edges into a position, as far as they were noted.

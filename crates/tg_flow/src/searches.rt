@@ -62,14 +62,14 @@ fn can_link(role: Role) -> bool
 
 // How far the position at a side of an edge is from the end, if it goes over that edge.
 fn level_over(ways: &Ways, edge: &FlowEdge, here: Side) -> Option<usize>
-    ensures { result ≡ level_over ways.now.steps.items (at_side edge.now (opposite here))
+    ensures { result ≡ level_over ways.now (at_side edge.now (opposite here))
         (passage_at edge.now here) }
 {
     match edge.passage(here) {
         Passage::Shut => None,
         Passage::Out(_) => Some(1),
         Passage::On(_) => match ways.step(edge.at(here.opposite())) {
-            Some(step) => Some(step.level as usize + 1),
+            Some(step) => Some(usize::from(step.level) + 1),
             None => None,
         },
     }
@@ -78,7 +78,7 @@ fn level_over(ways: &Ways, edge: &FlowEdge, here: Side) -> Option<usize>
 impl<'a> Search<'a> {
     // Whether an edge makes the position at a side one of those near x.
     fn leads_near(ways: &Ways, edge: &FlowEdge, here: Side) -> bool
-        ensures { result ≡ goes_from (is_met ways.now.steps.items (at_side edge.now (opposite here)))
+        ensures { result ≡ goes_from (is_met ways.now (at_side edge.now (opposite here)))
             (passage_at edge.now (opposite here)) }
     {
         let other = here.opposite();
@@ -91,7 +91,7 @@ impl<'a> Search<'a> {
     // Whether an edge makes the position at a side one of those beyond the near ones.
     fn leads_beyond(&self, ways: &Ways, has_holders: bool, edge: &FlowEdge, here: Side) -> bool
         ensures { result ≡ leads (Course.Beyond has_holders) (is_in self.now.near.now)
-            (is_met ways.now.steps.items) edge.now here }
+            (is_met ways.now) edge.now here }
     {
         if is_in(self.near, edge.at(here)) {
             return false;
@@ -105,7 +105,7 @@ impl<'a> Search<'a> {
 
     // The level of the position at a side of an edge, if the edge makes it one of those that were met.
     fn level_by(&self, ways: &Ways, edge: &FlowEdge, here: Side) -> Option<usize>
-        ensures { result ≡ level_by self.now.course (is_in self.now.near.now) ways.now.steps.items
+        ensures { result ≡ level_by self.now.course (is_in self.now.near.now) ways.now
             edge.now here }
     {
         let leads = match self.course {
@@ -131,12 +131,12 @@ impl<'a> Search<'a> {
         here: Side,
     ) -> Result<bool, AllocError>
         requires there { slice_get self.now.network.now number ≡ Some edge.now }
-        requires search { IsSearch (search_of self.now) ways.old.steps.items }
+        requires search { IsSearch (search_of self.now) ways.old }
         ensures on { IfOk result (λ met_one.
-            LooksOn (search_of self.now) met_one ways.old.steps.items ways.new.steps.items) }
+            LooksOn (search_of self.now) met_one ways.old ways.new) }
         ensures none { IfOk result (λ met_one. met_one ≡ false
-            → leads self.now.course (is_in self.now.near.now) (is_met ways.old.steps.items) edge.now here ≡ true
-            → is_met ways.old.steps.items (at_side edge.now here) ≡ true) }
+            → leads self.now.course (is_in self.now.near.now) (is_met ways.old) edge.now here ≡ true
+            → is_met ways.old (at_side edge.now here) ≡ true) }
     {
         let position = edge.at(here);
         if ways.has_met(position) {
@@ -145,7 +145,7 @@ impl<'a> Search<'a> {
         let Some(level) = self.level_by(ways, edge, here) else {
             return Ok(false);
         };
-        let Ok(level) = u32::try_from(level) else {
+        let Ok(level) = u16::try_from(level) else {
             return Err(AllocError);
         };
         let step = Step {
@@ -159,11 +159,11 @@ impl<'a> Search<'a> {
 
     // The same at both sides of the edge with a number, first at its source.
     fn look(&self, ways: &mut Ways, number: usize) -> Result<bool, AllocError>
-        requires { IsSearch (search_of self.now) ways.old.steps.items }
+        requires { IsSearch (search_of self.now) ways.old }
         ensures on { IfOk result (λ met_one.
-            LooksOn (search_of self.now) met_one ways.old.steps.items ways.new.steps.items) }
+            LooksOn (search_of self.now) met_one ways.old ways.new) }
         ensures none { IfOk result (λ met_one. met_one ≡ false
-            → MissesNone (search_of self.now) ways.old.steps.items number) }
+            → MissesNone (search_of self.now) ways.old number) }
     {
         let Some(edge) = self.network.edge(number) else {
             return Ok(false);
@@ -175,9 +175,9 @@ impl<'a> Search<'a> {
 
     // Looks at the edges out of a position.
     fn look_out(&self, ways: &mut Ways, position: usize) -> Result<(), AllocError>
-        requires { IsSearch (search_of self.now) ways.old.steps.items }
+        requires { IsSearch (search_of self.now) ways.old }
         ensures { OnOk result
-            (GoesFurther (search_of self.now) ways.old.steps.items ways.new.steps.items) }
+            (GoesFurther (search_of self.now) ways.old ways.new) }
     {
         let (first, end) = self.network.numbers_out(position);
         for number in first..end {
@@ -188,9 +188,9 @@ impl<'a> Search<'a> {
 
     // Looks at the edges into a position.
     fn look_in(&self, ways: &mut Ways, position: usize) -> Result<(), AllocError>
-        requires { IsSearch (search_of self.now) ways.old.steps.items }
+        requires { IsSearch (search_of self.now) ways.old }
         ensures { OnOk result
-            (GoesFurther (search_of self.now) ways.old.steps.items ways.new.steps.items) }
+            (GoesFurther (search_of self.now) ways.old ways.new) }
     {
         for number in self.network.numbers_into(position) {
             self.look(ways, *number as usize)?;
@@ -200,7 +200,7 @@ impl<'a> Search<'a> {
 
     // Whether the position that is sought was met.
     fn has_met_sought(&self, ways: &Ways) -> bool
-        ensures { IsTrue result ↔ HasMet self.now.sought ways.now.steps.items }
+        ensures { IsTrue result ↔ HasMet self.now.sought ways.now }
     {
         match self.sought {
             Some(sought) => ways.has_met(sought),
@@ -210,14 +210,16 @@ impl<'a> Search<'a> {
 
     // Looks at the edges at the next of those that were met, unless the sought one was. It says whether it did.
     fn go_round(&self, ways: &mut Ways, place: usize) -> Result<bool, AllocError>
-        requires { IsSearch (search_of self.now) ways.old.steps.items }
+        requires { IsSearch (search_of self.now) ways.old }
         ensures { OnOk result
-            (GoesFurther (search_of self.now) ways.old.steps.items ways.new.steps.items) }
+            (GoesFurther (search_of self.now) ways.old ways.new) }
     {
-        if self.has_met_sought(ways) || place >= ways.list.len() {
+        if self.has_met_sought(ways) {
             return Ok(false);
         }
-        let position = ways.list[place];
+        let Some(position) = ways.met_at(place) else {
+            return Ok(false);
+        };
         self.look_out(ways, position)?;
         self.look_in(ways, position)?;
         Ok(true)
@@ -225,11 +227,11 @@ impl<'a> Search<'a> {
 
     // Goes round those that were met, in their order, until the sought one was met.
     fn flood(&self, ways: &mut Ways) -> Result<(), AllocError>
-        requires { IsSearch (search_of self.now) ways.old.steps.items }
+        requires { IsSearch (search_of self.now) ways.old }
         ensures { OnOk result
-            (GoesFurther (search_of self.now) ways.old.steps.items ways.new.steps.items) }
+            (GoesFurther (search_of self.now) ways.old ways.new) }
     {
-        for place in 0..ways.steps.len() {
+        for place in 0..ways.count() {
             if !self.go_round(ways, place)? {
                 return Ok(());
             }
@@ -239,10 +241,10 @@ impl<'a> Search<'a> {
 
     // Looks at all edges, until a position is met. It says whether one was.
     fn look_at_all(&self, ways: &mut Ways) -> Result<bool, AllocError>
-        requires { IsSearch (search_of self.now) ways.old.steps.items }
+        requires { IsSearch (search_of self.now) ways.old }
         ensures { IfOk result (λ met_one. MatchBool met_one
-            (GoesOn (search_of self.now) ways.old.steps.items ways.new.steps.items)
-            (IsOver (search_of self.now) ways.new.steps.items)) }
+            (GoesOn (search_of self.now) ways.old ways.new)
+            (IsOver (search_of self.now) ways.new)) }
     {
         for number in 0..self.network.len() {
             if self.look(ways, number)? {
@@ -255,10 +257,10 @@ impl<'a> Search<'a> {
     // Floods on from a position that the flood has missed, if there is one: where the listing is as it should
     // be, there is none. It says whether there was.
     fn go_on(&self, ways: &mut Ways) -> Result<bool, AllocError>
-        requires { IsSearch (search_of self.now) ways.old.steps.items }
+        requires { IsSearch (search_of self.now) ways.old }
         ensures { IfOk result (λ on. MatchBool on
-            (GoesOn (search_of self.now) ways.old.steps.items ways.new.steps.items)
-            (IsOver (search_of self.now) ways.new.steps.items)) }
+            (GoesOn (search_of self.now) ways.old ways.new)
+            (IsOver (search_of self.now) ways.new)) }
     {
         if self.has_met_sought(ways) {
             return Ok(false);
@@ -275,8 +277,8 @@ impl<'a> Search<'a> {
     ///
     /// The one error is want of memory.
     pub fn run(&self, ways: &mut Ways, position: usize) -> Result<(), AllocError>
-        requires { IsSearch (search_of self.now) ways.old.steps.items }
-        ensures { OnOk result (IsOver (search_of self.now) ways.new.steps.items) }
+        requires { IsSearch (search_of self.now) ways.old }
+        ensures { OnOk result (IsOver (search_of self.now) ways.new) }
     {
         self.look_in(ways, position)?;
         self.flood(ways)?;

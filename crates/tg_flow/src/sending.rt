@@ -10,12 +10,12 @@ use crate::ways::Ways;
 impl Network {
     // A unit at a position takes its step. It answers the position to which it comes; none at the end.
     fn pass(&mut self, ways: &Ways, position: usize) -> Option<usize>
-        requires met { is_met ways.now.steps.items position ≡ true }
-        requires steps { HaveStepsUpTo (level_at ways.now.steps.items position) self.old
-            ways.now.steps.items }
+        requires met { is_met ways.now position ≡ true }
+        requires steps { HaveStepsUpTo (level_at ways.now position) self.old
+            ways.now }
         ensures { MatchOption result
             (GoesOut self.old self.new position)
-            (λ next. GoesOn self.old self.new ways.now.steps.items position next) }
+            (λ next. GoesOn self.old self.new ways.now position next) }
     {
         let Some(step) = ways.step(position) else {
             unreachable!();
@@ -38,8 +38,8 @@ impl Network {
 
     /// A unit goes from a position to the end.
     pub(crate) fn send(&mut self, ways: &Ways, x: usize)
-        requires met { is_met ways.now.steps.items x ≡ true }
-        requires ways { AreWays self.old ways.now.steps.items }
+        requires met { is_met ways.now x ≡ true }
+        requires ways { AreWays self.old ways.now }
         ensures { Sends x self.old self.new }
     {
         let mut position = x;

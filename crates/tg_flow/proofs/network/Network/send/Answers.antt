@@ -8,7 +8,7 @@ use Rattle.tg_flow.proofs.network.Network.send.Goals as goal
 pub loop-next-init : goal.loop-next-init
 loop-next-init c = record {
   met = c.requires.met;
-  can = ways-up_to c.args.self.now c.args.ways.now.steps.items (level_at c.args.ways.now.steps.items c.args.x) c.requires.ways;
+  can = ways-up_to c.args.self.now c.args.ways.now (level_at c.args.ways.now c.args.x) c.requires.ways;
   same = same-none c.args.self.now;
   carried = carried-first c.args.self.now c.args.x;
 }
@@ -27,7 +27,7 @@ loop-next-preserved c =
 pub returns : goal.returns
 returns c =
     let now = c.loop-next.invariant in
-    let steps = c.args.ways.now.steps.items in
+    let steps = c.args.ways.now in
     let goes = MatchOption-at_none (GoesOut c.loop-next.self c.pass.new.self c.loop-next.position) (λ next. GoesOn c.loop-next.self c.pass.new.self steps c.loop-next.position next) c.in_default.is c.pass.ensures in
     record {
       same = same-then c.args.self.now c.loop-next.self c.pass.new.self now.same goes.same;

@@ -6,11 +6,11 @@ use Rattle.tg_flow.proofs.network.Network.send.Given as goal
 abbrev pub invariant-loop-next : goal.invariant-loop-next
 invariant-loop-next l =
     record {
-      met : is_met l.ways.steps.items l.position ≡ true;
-      can : HaveStepsUpTo (level_at l.ways.steps.items l.position) l.self l.ways.steps.items;
+      met : is_met l.ways l.position ≡ true;
+      can : HaveStepsUpTo (level_at l.ways l.position) l.self l.ways;
       same : SameBut l.fn.self l.self;
       carried : (units : ℕ) → IsFlow l.fn.self l.x units → IsCarried l.self l.x units l.position;
     }
 
 abbrev pub decreases-loop-next : goal.decreases-loop-next
-decreases-loop-next l = level_at l.ways.steps.items l.position
+decreases-loop-next l = level_at l.ways l.position

@@ -19,5 +19,5 @@ returns c =
     let now = c.loop-self.invariant in
     record {
       same = now.same;
-      full = full c.loop-self.self c.args.x c.loop-self.units c.loop-self.ways.steps.items now.flow now.over (sym c.has_met.ensures ∙ c.loop-self-test.false);
+      full = full c.loop-self.self c.args.x c.loop-self.units c.loop-self.ways now.flow now.over (sym c.has_met.ensures ∙ c.loop-self-test.false);
     }

@@ -9,7 +9,7 @@ invariant-loop-self l =
       same : SameBut l.fn.self l.self;
       small : length l.self < 2 ^ 64;
       flow : IsFlow l.self l.x l.units;
-      over : IsOver (to_end l.self false l.x) l.ways.steps.items;
+      over : IsOver (to_end l.self false l.x) l.ways;
     }
 
 abbrev pub decreases-loop-self : goal.decreases-loop-self

@@ -5,6 +5,6 @@ use Rattle.tg_flow.proofs.searches.Search.look_at_all.Given as goal
 abbrev pub invariant-loop-number : goal.invariant-loop-number
 invariant-loop-number l =
     record {
-      same : l.ways.steps.items ≡ l.fn.ways.steps.items;
-      misses : (k : ℕ) → k < l.number → MissesNone (search_of l.self) l.fn.ways.steps.items k;
+      same : l.ways ≡ l.fn.ways;
+      misses : (k : ℕ) → k < l.number → MissesNone (search_of l.self) l.fn.ways k;
     }
