@@ -1,4 +1,4 @@
-use Rattle.std.proofs.Common.{◌≡◌, List, Option, Vec, Result, Ok, Err, subst}
+use Rattle.std.proofs.Common.{◌≡◌, List, Option, Vec, Global, Result, Ok, Err, subst}
 use Rattle.std.specs.Prelude.{IfOk, MatchOption}
 use Rattle.tg_graph.specs.declared.rules.Rule.{Rule}
 use Rattle.tg_cuts.specs.Cuts.{IsTheCut, HasNoCut}
@@ -17,5 +17,5 @@ found_told q rules cut (Err fault) same is told = told
 pub returns-in-Some : goal.returns-in-Some
 returns-in-Some c =
     let q = cut_question_of c.args.question.now in
-    let is = subst (λ (cut : Option (Vec Rule)). MatchOption cut (HasNoCut q.graph q.right q.x q.y q.kept) (λ rules. IsTheCut q.graph q.right q.x q.y q.kept rules.items)) c.in-Some.is c.in_ok-rules.ensures in
+    let is = subst (λ (cut : Option (Vec Rule Global)). MatchOption cut (HasNoCut q.graph q.right q.x q.y q.kept) (λ rules. IsTheCut q.graph q.right q.x q.y q.kept rules.items)) c.in-Some.is c.in_ok-rules.ensures in
     found_told q c.deref.result.now c.in-Some.rules.items c.found.result c.deref.ensures.value is c.found.ensures
