@@ -7,6 +7,7 @@ pub mod ReportLaws
 pub mod ActLemmas
 pub mod ScriptLemmas
 pub mod DerivedTexts
+pub mod MadeReports
 pub mod OneReport
 pub mod TableTests
 pub mod WhoTests
