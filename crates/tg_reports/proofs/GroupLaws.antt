@@ -1,13 +1,13 @@
 -- Places of names, marks at places, and names that join a group.
-use Rattle.std.proofs.Common.{◌≡◌, ℕ, ◌<◌, ◌≤◌, ◌+◌, ◌↔◌, Bool, true, false, cond, ◌||◌, ◌&&◌, not, List, [], ◌∷◌, ◌++◌, set, replicate, Option, Some, None, Result, Ok, Err, Vec, Global, length, slice_get, get_or, take, bytes_eq, refl, sym, ap, subst, ◌∙◌, arith, true≢false, inl, inr, ◌⊎◌, IsTrue}
+use Rattle.std.proofs.Common.{◌≡◌, ℕ, ◌<◌, ◌≤◌, ◌+◌, ◌↔◌, Bool, true, false, ◌||◌, ◌&&◌, not, List, [], ◌∷◌, ◌++◌, set, replicate, Option, Some, None, Result, Ok, Err, Vec, Global, length, slice_get, get_or, take, bytes_eq, refl, sym, ap, subst, ◌∙◌, arith, true≢false, inl, inr, ◌⊎◌, IsTrue}
 use Rattle.std.specs.Option.{option_map_or}
-use Rattle.std.specs.List.{list_any, position}
+use Rattle.std.specs.List.{position}
 use Rattle.std.specs.List.Sorted.{IsStrictlySortedBy, IsSearchInRange, IsBinarySearchResult, IsNonDecreasingBy}
 use Rattle.std.specs.Cmp.Lexicographic.{nat_list_cmp_total, nat_list_eq_equiv}
 use Rattle.std.specs.Ordering.{is_eq, is_lt, ordering_index, ordering_reverse}
-use Rattle.std.specs.declared.cmp.Ordering.TheVariants.{Less, Equal, Greater}
+use Rattle.std.specs.declared.cmp.Ordering.TheVariants.{Less}
 use Rattle.std.specs.BTreeMap.{get}
-use Rattle.std.proofs.lemmas.Bool.{cases_lt, cases_eq, cases_Bool, or_cases, or_left, or_right}
+use Rattle.std.proofs.lemmas.Bool.{cases_lt, cases_eq, cases_Bool}
 use Rattle.std.proofs.lemmas.List.{get_or-set_same, get_or-set_other, get_or-replicate, get_or_past, length-set, length-replicate}
 use Rattle.std.proofs.lemmas.List.Folds.{list_any_more}
 use Rattle.std.proofs.lemmas.List.Sorted.{searchable_from_sorted}
@@ -26,7 +26,7 @@ use Rattle.tg_analysis.proofs.ByTarget.{behind-is, behind-keeps, behind-last, fo
 use Rattle.tg_analysis.proofs.Places.{place-known}
 use Rattle.tg_reports.specs.declared.groups.Groups.{Groups}
 use Rattle.tg_reports.specs.Policies.{Membership, stands_for, some_stands_for}
-use Rattle.tg_reports.specs.PolicyParts.{AreMarked, AreRisingPlaces, IsNamed, is_marked_name, membership}
+use Rattle.tg_reports.specs.PolicyParts.{AreMarked, AreRisingPlaces, is_marked_name, membership}
 
 -- ---- the place of a name
 module _ (names : List Name) (strict : IsStrictlySortedBy name_cmp names) where

@@ -1,6 +1,6 @@
 -- The reports of a policy are one, but that other rules may stand below a line.
-use Rattle.std.proofs.Common.{◌≡◌, ℕ, ◌+◌, cond, Bool, true, false, List, [], ◌∷◌, ◌++◌, map, Option, Some, None, refl, sym, ap, subst, ◌∙◌, inl, inr, ◌⊎◌, append_assoc}
-use Rattle.std.specs.Prelude.{count_by, is_some, codes, decimal, nat_eq}
+use Rattle.std.proofs.Common.{◌≡◌, ℕ, ◌+◌, cond, Bool, true, false, List, [], ◌∷◌, ◌++◌, Option, Some, None, refl, sym, ap, subst, ◌∙◌, inl, inr, ◌⊎◌, append_assoc}
+use Rattle.std.specs.Prelude.{is_some, codes, decimal, nat_eq}
 use Rattle.std.proofs.lemmas.List.{append-nil}
 use Rattle.tg_names.specs.declared.right_sets.Right.{Right}
 use Rattle.tg_graph.specs.declared.rules.Rule.{Rule}
@@ -14,7 +14,7 @@ use Rattle.tg_analysis.specs.declared.cases.Case.{Case}
 use Rattle.tg_analysis.specs.Derivations.{IsDerivation}
 use Rattle.tg_reports.specs.Readings.{ReportText}
 use Rattle.tg_reports.specs.Derived.{derivation_report}
-use Rattle.tg_reports.specs.Policies.{Membership, no_members, members_after, Finding, IsFinding, AreFindings, IsWhy, verdict_line, told_of, told_of_all, broken_count, verified_report, IsVerified}
+use Rattle.tg_reports.specs.Policies.{Membership, no_members, members_after, Finding, AreFindings, IsWhy, verdict_line, told_of, told_of_all, broken_count, verified_report, IsVerified}
 use Rattle.tg_reports.proofs.VerdictLaws.{verdict_one, count-first}
 
 module _ (g : ProtectionGraph) where

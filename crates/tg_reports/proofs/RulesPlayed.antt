@@ -1,5 +1,5 @@
 -- Rules that are played as they are read, and those that are listed first.
-use Rattle.std.proofs.Common.{◌≡◌, ℕ, Bool, true, false, nat_eq, if◌then◌else◌, List, [], ◌∷◌, ◌++◌, length, Option, None, Some, Result, Ok, Err, refl, sym, ap, ◌∙◌, append_assoc}
+use Rattle.std.proofs.Common.{◌≡◌, ℕ, Bool, true, false, nat_eq, if◌then◌else◌, List, [], ◌∷◌, ◌++◌, Option, None, Some, Result, Ok, Err, refl, sym, ap, ◌∙◌, append_assoc}
 use Rattle.std.specs.Prelude.{codes}
 use Rattle.std.specs.List.{fold}
 use Rattle.std.proofs.lemmas.Bool.Decides.{Decides-eqb}
@@ -12,7 +12,7 @@ use Rattle.tg_text.specs.declared.faults.TextKind.{TextKind}
 use Rattle.tg_text.specs.declared.rule_text.RuleLine.{RuleLine}
 use Rattle.tg_text.specs.Reading.{◌>>=◌}
 use Rattle.tg_text.specs.RuleText.{rules_text, rules_make}
-use Rattle.tg_reports.specs.Readings.{ReportText, from_text}
+use Rattle.tg_reports.specs.Readings.{from_text}
 use Rattle.tg_reports.specs.Reports.{Played, played, played_first, reply_line}
 use Rattle.tg_reports.specs.Outcomes.{nothing_played, and_played, played_on, played_in}
 

@@ -1,5 +1,5 @@
 -- One line of a policy more that is told.
-use Rattle.std.proofs.Common.{◌≡◌, ℕ, zero, suc, ◌+◌, ◌≤◌, Bool, true, false, cond, ◌||◌, ◌&&◌, not, List, [], ◌∷◌, ◌++◌, Option, Some, None, length, length-append, take, get_or, slice_get, option_map, All, bytes_eq, refl, sym, ap, subst, ◌∙◌, arith, true≢false, inl, inr, ◌⊎◌, append_assoc}
+use Rattle.std.proofs.Common.{◌≡◌, ℕ, zero, suc, ◌+◌, ◌≤◌, Bool, true, false, cond, ◌||◌, ◌&&◌, not, List, [], ◌∷◌, ◌++◌, Option, Some, None, length, length-append, take, get_or, slice_get, option_map, All, refl, sym, ap, subst, ◌∙◌, arith, true≢false, append_assoc}
 use Rattle.std.specs.Prelude.{is_some, codes, decimal}
 use Rattle.std.specs.List.{list_any}
 use Rattle.std.proofs.lemmas.List.{append-nil, take_more, map-append}
@@ -7,7 +7,7 @@ use Rattle.std.proofs.lemmas.List.Folds.{list_any_none}
 use Rattle.std.proofs.lemmas.Option.{slice_get_within, slice_get-map, get_or_from_slice_get}
 use Rattle.tg_names.specs.Letters.{letter_of}
 use Rattle.tg_names.specs.Names.{Name, same_name}
-use Rattle.tg_graph.specs.Graphs.{ProtectionGraph, has_vertex}
+use Rattle.tg_graph.specs.Graphs.{ProtectionGraph}
 use Rattle.tg_text.specs.declared.policy_text.Operand.{Operand}
 use Rattle.tg_text.specs.declared.policy_text.Operand.TheVariants as operand
 use Rattle.tg_text.specs.declared.policy_text.Claim.{Claim}
@@ -18,7 +18,7 @@ use Rattle.tg_text.specs.Canonical.{line_of}
 use Rattle.tg_analysis.specs.declared.cases.Case.{Case}
 use Rattle.tg_reports.specs.declared.groups.Groups.{Groups}
 use Rattle.tg_reports.specs.declared.verdicts.Verdicts.{Verdicts}
-use Rattle.tg_reports.specs.Policies.{Membership, no_members, stands_for, some_stands_for, members_after, members_behind, Finding, IsVerdict, IsFinding, AreFindings, IsWhy, verdict_line, told_of, told_of_all, broken_count}
+use Rattle.tg_reports.specs.Policies.{Membership, no_members, some_stands_for, members_after, members_behind, Finding, IsVerdict, IsFinding, IsWhy, verdict_line, told_of, told_of_all}
 use Rattle.tg_reports.specs.PolicyParts.{HasTold, IsToldOf, members_in}
 use Rattle.tg_reports.proofs.VerdictLaws.{behind-more, findings-more, told-more, count-more}
 

@@ -1,9 +1,8 @@
 -- A policy's verdicts are one, and it is kept exactly where each line holds.
-use Rattle.std.proofs.Common.{◌≡◌, ℕ, zero, suc, ◌+◌, ◌<◌, Bool, true, false, cond, List, [], ◌∷◌, ◌++◌, map, take, Option, Some, None, slice_get, nat_eq, refl, sym, ap, subst, ◌∙◌, arith, inl, inr, ◌⊎◌, append_assoc}
+use Rattle.std.proofs.Common.{◌≡◌, ℕ, zero, suc, ◌+◌, Bool, true, false, cond, List, [], ◌∷◌, ◌++◌, map, Option, Some, None, nat_eq, refl, sym, ap, subst, ◌∙◌, arith, inl, inr, ◌⊎◌, append_assoc}
 use Rattle.std.specs.Prelude.{◌↔◌, is_some, codes, decimal, if◌then◌else◌}
 use Rattle.std.specs.Cmp.Lexicographic.{nat_list_cmp_total}
-use Rattle.std.specs.declared.cmp.Ordering.{Ordering}
-use Rattle.std.specs.declared.cmp.Ordering.TheVariants.{Less, Greater}
+use Rattle.std.specs.declared.cmp.Ordering.TheVariants.{Less}
 use Rattle.std.specs.Ordering.{ordering_reverse}
 use Rattle.std.proofs.lemmas.Bool.{eqb-true}
 use Rattle.std.proofs.lemmas.List.{append-nil}
@@ -14,7 +13,7 @@ use Rattle.tg_graph.specs.Graphs.{ProtectionGraph}
 use Rattle.tg_text.specs.declared.policy_text.Operand.{Operand}
 use Rattle.tg_text.specs.declared.policy_text.Claim.{Claim}
 use Rattle.tg_text.specs.PolicyText.{PolicyLineOf}
-use Rattle.tg_text.specs.Canonical.{name_cmp, line_of}
+use Rattle.tg_text.specs.Canonical.{line_of}
 use Rattle.tg_analysis.specs.declared.cases.Case.{Case}
 use Rattle.tg_reports.specs.Readings.{ReportText}
 use Rattle.tg_reports.specs.Policies.{Membership, no_members, members_after, members_behind, IsBelow, ComesBefore, ByRight, ByFirst, BySecond, IsVerdict, Finding, IsFinding, AreFindings, told_of, told_of_all, broken_count, verified_report, Holds, AllHold, IsKept, KeptExactly, VerdictsAreOne}

@@ -3,7 +3,7 @@ use Rattle.std.proofs.Common.{◌≡◌, ℕ, Bool, true, List, refl, sym, ◌�
 use Rattle.std.specs.Prelude.{Some}
 use Rattle.tg_names.specs.declared.right_sets.Right.{Right}
 use Rattle.tg_names.specs.declared.right_sets.Rights.{Rights}
-use Rattle.tg_names.specs.Sets.{member, rights_where}
+use Rattle.tg_names.specs.Sets.{rights_where}
 use Rattle.tg_names.specs.Letters.{set_of_right}
 use Rattle.tg_names.specs.Names.{Name}
 use Rattle.tg_graph.specs.Graphs.{ProtectionGraph, has_vertex}
@@ -12,7 +12,7 @@ use Rattle.tg_text.specs.Canonical.{in_name_order}
 use Rattle.tg_text.proofs.NameOrder.{among, among-in_order}
 use Rattle.tg_analysis.proofs.OneRight.{the_one, as_set}
 use Rattle.tg_reports.specs.Readings.{ReportText}
-use Rattle.tg_reports.specs.Reports.{TellsSharing, IsReached, who_text, reach_text}
+use Rattle.tg_reports.specs.Reports.{TellsSharing, IsReached}
 use Rattle.tg_reports.specs.ReportLaws.{WhoIsAColumn, ReachIsARow}
 use Rattle.tg_reports.proofs.OneReport.{same_truth, names_same, sets_same, one_set}
 

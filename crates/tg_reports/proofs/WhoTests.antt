@@ -1,15 +1,13 @@
 -- Marks and sets by position tell of each vertex who can come to have rights, and which.
 use Rattle.std.proofs.Common.{◌≡◌, ℕ, ◌<◌, Bool, true, false, List, length, get_or, Option, Some, None, refl, sym, ap, ◌∙◌, subst, slice_get, bytes_eq, unwrap_or, arith}
-use Rattle.std.specs.Prelude.{◌↔◌, IsTrue, option_and_then}
+use Rattle.std.specs.Prelude.{option_and_then}
 use Rattle.std.specs.List.{IsDistinct}
 use Rattle.std.proofs.lemmas.Bool.{false≢true}
 use Rattle.std.proofs.lemmas.Option.{slice_get_within, slice_get-get_or}
-use Rattle.tg_names.specs.declared.right_sets.Right.{Right}
 use Rattle.tg_names.specs.declared.right_sets.Rights.{Rights}
-use Rattle.tg_names.specs.Sets.{member, nothing, IsNamed}
+use Rattle.tg_names.specs.Sets.{nothing}
 use Rattle.tg_names.specs.Names.{Name}
 use Rattle.tg_graph.specs.Graphs.{ProtectionGraph}
-use Rattle.tg_graph.specs.RuleLists.{CanShare}
 use Rattle.tg_analysis.specs.Reaching.{TellWho, TellReach}
 use Rattle.tg_analysis.proofs.Places.{place_of, position-at}
 use Rattle.tg_reports.specs.Reports.{TellsWho, IsReached, TellsReach}

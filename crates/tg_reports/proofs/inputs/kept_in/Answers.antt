@@ -1,10 +1,10 @@
-use Rattle.std.proofs.Common.{◌≡◌, ◌∙◌, List, length, Bor, take, drop, ℕ, [], ap, sym, subst, map, arith}
+use Rattle.std.proofs.Common.{◌≡◌, ◌∙◌, List, Bor, drop, ℕ, [], ap, sym, subst, map, arith}
 use Rattle.std.proofs.lemmas.List.{take_rest}
 use Rattle.tg_graph.specs.GraphOf.{graph_of}
 use Rattle.tg_cuts.specs.declared.kept.Ends.{Ends}
 use Rattle.tg_reports.specs.Readings.{kept_in}
 use Rattle.tg_reports.specs.Outcomes.{HaveEnds}
-use Rattle.tg_reports.proofs.CutReports.{kept_from, kept_from-none, kept_from-more, kept_from-end, ends-none, ends-more}
+use Rattle.tg_reports.proofs.CutReports.{kept_from, kept_from-none, kept_from-more, ends-none, ends-more}
 use Rattle.tg_reports.proofs.inputs.kept_in.Goals as goal
 
 pub loop-left-init : goal.loop-left-init

@@ -1,6 +1,5 @@
-use Rattle.std.proofs.Common.{◌∙◌, length, refl, subst, arith}
+use Rattle.std.proofs.Common.{◌∙◌, refl, subst, arith}
 use Rattle.std.proofs.lemmas.List.{take_all}
-use Rattle.std.proofs.lemmas.Option.{slice_get_read}
 use Rattle.tg_store.proofs.RunningSeats.{goes_on-refl, goes_on-trans}
 use Rattle.tg_reports.specs.RaceParts.{MeetsAll}
 use Rattle.tg_reports.proofs.RaceHistory.{meets-none, met-more}

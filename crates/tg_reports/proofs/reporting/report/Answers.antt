@@ -1,4 +1,4 @@
-use Rattle.std.proofs.Common.{◌≡◌, ℕ, List, map, Bor, Ok, Err, ap, sym, ◌∙◌, rules, subst}
+use Rattle.std.proofs.Common.{ℕ, List, map, Bor, Err, ap, sym, ◌∙◌, rules, subst}
 use Rattle.tg_reports.specs.declared.words.Command.{Command}
 use Rattle.tg_reports.specs.Calls.{command_words}
 use Rattle.tg_reports.specs.Readings.{cut_in}

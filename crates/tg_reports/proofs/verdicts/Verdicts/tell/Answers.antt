@@ -1,6 +1,6 @@
-use Rattle.std.proofs.Common.{◌≡◌, ◌≤◌, List, ◌||◌, ◌&&◌, length, refl, sym, ap, subst, ◌∙◌, arith}
+use Rattle.std.proofs.Common.{◌≡◌, ◌≤◌, List, length, refl, ap, subst, ◌∙◌, arith}
 use Rattle.std.specs.List.{list_any}
-use Rattle.tg_names.specs.Names.{Name, same_name}
+use Rattle.tg_names.specs.Names.{Name}
 use Rattle.tg_graph.specs.GraphOf.{graph_of}
 use Rattle.tg_text.specs.declared.policy_text.Operand.{Operand}
 use Rattle.tg_text.specs.Canonical.{in_name_order}
