@@ -59,19 +59,27 @@ fn kept_edges_leave_none(rt: HostRuntime) -> Result<(), Fail> {
     Ok(())
 }
 
+// What has to go so that x can't come to have a right over y where the two ways are.
+fn cuts_ways<R: Abort + Threads + Sync + AllocGlobal>(
+    rt: &R,
+    right: &str,
+    x: &str,
+    y: &str,
+    wanted: &[u8],
+) -> Result<(), Fail> {
+    let kept: &[&str] = &[];
+    let command = Command::Cut { right, x, y, kept };
+    reports(rt, command, WAYS, b"", wanted, 0)
+}
+
 #[test]
 fn of_another_right_or_vertex(rt: HostRuntime) -> Result<(), Fail> {
-    let kept: &[&str] = &[];
-    for (right, x, y, wanted) in [
-        ("w", "x", "y", b"# cut 1\nremove x b t\n".as_slice()),
-        ("e", "x", "y", b"# no\n"),
-        ("r", "y", "y", b"# no\n"),
-        ("r", "h", "y", b"# cut 2\nremove a h t\nremove h y r\n"),
-        ("t", "x", "b", b"# cut 1\nremove x b t\n"),
-    ] {
-        let command = Command::Cut { right, x, y, kept };
-        reports(&rt, command, WAYS, b"", wanted, 0)?;
-    }
+    cuts_ways(&rt, "w", "x", "y", b"# cut 1\nremove x b t\n")?;
+    cuts_ways(&rt, "e", "x", "y", b"# no\n")?;
+    cuts_ways(&rt, "r", "y", "y", b"# no\n")?;
+    let wanted = b"# cut 2\nremove a h t\nremove h y r\n";
+    cuts_ways(&rt, "r", "h", "y", wanted)?;
+    cuts_ways(&rt, "t", "x", "b", b"# cut 1\nremove x b t\n")?;
     Ok(())
 }
 
@@ -164,18 +172,21 @@ fn kept_edges_refused(rt: HostRuntime) -> Result<(), Fail> {
     Ok(())
 }
 
+// The words ask what has to go so that a can't come to have r over c in g, where edges are kept.
+fn calls_to_cut(rt: &impl Abort, words: &[&str], kept: &[&str]) {
+    let (right, x, y) = ("r", "a", "c");
+    let command = Command::Cut { right, x, y, kept };
+    calls_for(rt, words, Call::File(command, "g"));
+}
+
 #[test]
 fn words_of_cut(rt: HostRuntime) {
-    let (right, x, y) = ("r", "a", "c");
-    let kept: &[&str] = &[];
-    let alone = Call::File(Command::Cut { right, x, y, kept }, "g");
-    calls_for(&rt, &["cut", "g", "r", "a", "c"], alone);
-    let kept: &[&str] = &["--keep", "a", "b", "--keep", "b", "c"];
-    let keeping = Call::File(Command::Cut { right, x, y, kept }, "g");
+    calls_to_cut(&rt, &["cut", "g", "r", "a", "c"], &[]);
     let words = [
         "cut", "g", "r", "a", "c", "--keep", "a", "b", "--keep", "b", "c",
     ];
-    calls_for(&rt, &words, keeping);
+    let kept = ["--keep", "a", "b", "--keep", "b", "c"];
+    calls_to_cut(&rt, &words, &kept);
 }
 
 #[test]
