@@ -1,17 +1,17 @@
 -- The rules for what edges lose: one edge more, one row more, and all of them.
-use Rattle.std.proofs.Common.{◌≡◌, ℕ, zero, suc, ◌+◌, ◌<◌, ◌≤◌, ◌⊎◌, inl, inr, Bool, true, false, not, ◌&&◌, ◌||◌, List, [], ◌∷◌, ◌++◌, take, length, slice_get, Option, Some, None, refl, sym, ap, subst, ◌∙◌, bytes_eq, is_some, arith, append_assoc}
-use Rattle.std.specs.List.{AllByRecursion, list_any, IsDistinct, position}
+use Rattle.std.proofs.Common.{◌≡◌, ℕ, zero, suc, ◌+◌, ◌<◌, ◌≤◌, ◌⊎◌, inl, inr, Bool, true, false, not, ◌&&◌, ◌||◌, List, [], ◌∷◌, ◌++◌, take, length, slice_get, Option, Some, None, refl, sym, ap, subst, ◌∙◌, bytes_eq, nat_lt, eqb, if◌then◌else◌, is_some, arith, append_assoc}
+use Rattle.std.specs.List.{AllByRecursion, list_any, IsDistinct}
 use Rattle.std.specs.List.Sorted.{IsStrictlySortedBy, IsSorted, IsPermutation}
 use Rattle.std.specs.Map.{keys_of, lookup}
 use Rattle.std.specs.Option.{option_map, option_map_or}
 use Rattle.std.specs.Ordering.{nat_cmp}
 use Rattle.std.specs.Cmp.Lexicographic.{slice_cmp, nat_list_eq_equiv}
 use Rattle.std.specs.declared.cmp.Ordering.TheVariants.{Less}
-use Rattle.std.proofs.lemmas.Bool.{false≢true, both_ways, or_cases, or_left, or_right, and_parts, and_from, and_left, cases_lt, cases_Bool}
+use Rattle.std.proofs.lemmas.Bool.{false≢true, both_ways, or_cases, or_left, or_right, and_parts, and_from, and_left, cases_lt, cases_Bool, eqb-true, eqb-false, lt-ltb, le-ltb}
 use Rattle.std.proofs.lemmas.List.{append-nil, take_more, take_all}
 use Rattle.std.proofs.lemmas.List.Folds.{list_any-append}
 use Rattle.std.proofs.lemmas.List.Sorted.{list_any-IsPermutation}
-use Rattle.std.proofs.lemmas.Map.Keys.{IsDistinct-IsPermutation}
+use Rattle.std.proofs.lemmas.Map.Keys.{IsDistinct-push, IsDistinct-IsPermutation}
 use Rattle.std.proofs.lemmas.Map.Entries.{lookup_from_place}
 use Rattle.std.proofs.lemmas.Option.{none-some, same_Some, some_pair_parts, slice_get_within, get_or_from_slice_get, slice_get-map}
 use Rattle.tg_names.specs.declared.right_sets.Right.{Right}
@@ -23,7 +23,7 @@ use Rattle.tg_graph.specs.declared.ends.Wanted.TheVariants.{All}
 use Rattle.tg_names.specs.Sets.{member, is_empty_set, IsNamed, rights_where}
 use Rattle.tg_graph.specs.Ends.{end_of}
 use Rattle.tg_names.specs.Names.{Name, same_name}
-use Rattle.tg_graph.specs.Graphs.{WellFormed}
+use Rattle.tg_graph.specs.Graphs.{WellFormed, has_vertex}
 use Rattle.tg_graph.specs.GraphOf.{graph_of}
 use Rattle.tg_rows.specs.Rows.{Edges, Entries, IsGraph, IsRow, is_target, row_number}
 use Rattle.tg_flow.specs.Courses.{is_in}
@@ -35,13 +35,13 @@ use Rattle.tg_names.proofs.Sets.{member-where}
 use Rattle.tg_cuts.specs.declared.kept.Ends.{Ends}
 use Rattle.tg_analysis.specs.Moves.{only, take_and_grant}
 use Rattle.tg_cuts.specs.Cuts.{IsBelow, ComesFirst, AreInOrder, edges_of}
-use Rattle.tg_cuts.specs.CutParts.{differ, is_lost_by, is_lost, IsLoss, free_of, TakesAt, TakesNone, AddsLoss, takes, are_taken, RowRules, AddsRules, AreNames, IsLossRule, AreLosses}
+use Rattle.tg_cuts.specs.CutParts.{differ, is_lost_by, is_lost, IsLoss, free_of, TakesAt, TakesNone, AddsLoss, takes, are_taken, RowRules, AddsRules, has_edges, IsSourceAt, AreSources, IsLossRule, AreLosses}
 use Rattle.tg_analysis.proofs.NameTests.{same_refl, any_push, none_member}
-use Rattle.tg_analysis.proofs.Places.{position-at, RowOf, row_of, place-known, holds-place, place-holds}
+use Rattle.tg_analysis.proofs.Places.{position-at, RowOf, row_of, place_of, place-known, holds-place, place-holds}
 use Rattle.tg_analysis.proofs.ByTarget.{is_read, end-there, found}
 use Rattle.tg_cuts.proofs.EdgeOrder.{all-map, all-append, all-at, order-append, edges-append, edges-each}
 use Rattle.tg_cuts.proofs.Removed.{same_remove}
-use Rattle.tg_cuts.proofs.FlowEdges.{free-at}
+use Rattle.tg_cuts.proofs.FlowEdges.{free-at, names-past, one-position}
 
 -- ---- what one edge loses
 -- all of it that is not left when what goes is left out
@@ -146,18 +146,96 @@ none_taken t (k ∷ ks) = refl
 take_one : (ks : List Name) (k : ℕ) (v : Name) → slice_get ks k ≡ Some v → take (k + 1) ks ≡ take k ks ++ v ∷ []
 take_one ks k v at = take_more ks k v (slice_get_within ks k v at) ∙ ap (λ (w : Name). take k ks ++ w ∷ []) (get_or_from_slice_get ks k v v at)
 
--- the names so far, with the one at the next position
-pub names-more : (es : Entries) (position : ℕ) (name : Name) (old new : List Name) → old ≡ take position (keys_of es) → slice_get (keys_of es) position ≡ Some name → new ≡ old ++ name ∷ [] → new ≡ take (position + 1) (keys_of es)
-names-more es position name old new so_far at is = is ∙ ap (λ (ns : List Name). ns ++ name ∷ []) so_far ∙ sym (take_one (keys_of es) position name at)
+or_none : (b : Bool) → (b || false) ≡ b
+or_none true = refl
+or_none false = refl
 
-pub names-whole : (es : Entries) → IsGraph es → (count : ℕ) (all names : List Name) → length (keys_of es) ≤ count → all ≡ take count (keys_of es) → IsPermutation all names → IsSorted (slice_cmp nat_cmp) names → AreNames es names
-names-whole es ok count all names high so_far moved sorted =
-    let whole : all ≡ keys_of es = so_far ∙ take_all count (keys_of es) high in
-    let apart = IsDistinct-IsPermutation bytes_eq nat_list_eq_equiv.symm all names moved (subst (IsDistinct bytes_eq) (sym whole) ok.apart) in
-    record {
-      sorted = strict_from_sorted names sorted apart;
-      among = λ v. sym (list_any-IsPermutation (same_name v) all names moved) ∙ ap (list_any (same_name v)) whole;
-    }
+-- the names of the vertices before a position that edges go out of
+pub record SourcesUpTo (es : Entries) (position : ℕ) (names : List Name) : Type 0 where
+  pub apart : IsDistinct bytes_eq names
+  pub known : (v : Name) → list_any (same_name v) names ≡ true → list_any (same_name v) (keys_of es) ≡ true
+  pub among : (a : ℕ) (v : Name) → slice_get (keys_of es) a ≡ Some v → list_any (same_name v) names ≡ (nat_lt a position && has_edges es a)
+
+none_apart : IsDistinct bytes_eq []
+unfolding IsDistinct
+none_apart = tt
+
+pub sources-none : (es : Entries) (names : List Name) → names ≡ [] → SourcesUpTo es 0 names
+sources-none es names none = subst (SourcesUpTo es 0) (sym none) (record { apart = none_apart; known = λ v h. absurd (false≢true h); among = λ a v at. sym (ap (λ b. b && has_edges es a) (le-ltb a 0 (omega arith))) })
+
+module _ (es : Entries) (ok : IsGraph es) (position : ℕ) (old : List Name) (so_far : SourcesUpTo es position old) where
+  -- at another position nothing changes
+  before : (a : ℕ) → (a ≡ position → ⊥) → nat_lt a (position + 1) ≡ nat_lt a position
+  before a other = by (cases_lt a position)
+    where
+      by : (a < position) ⊎ (position ≤ a) → nat_lt a (position + 1) ≡ nat_lt a position
+      by (inl low) = lt-ltb a (position + 1) (omega (arith, low)) ∙ sym (lt-ltb a position low)
+      by (inr high) = le-ltb a (position + 1) (by_high (cases_lt position a)) ∙ sym (le-ltb a position high)
+        where
+          by_high : (position < a) ⊎ (a ≤ position) → position + 1 ≤ a
+          by_high (inl above) = omega (arith, above)
+          by_high (inr low) = absurd (other (omega (arith, high, low)))
+
+  -- the next position
+  here : nat_lt position (position + 1) ≡ true
+  here = lt-ltb position (position + 1) (omega arith)
+
+  not_here : nat_lt position position ≡ false
+  not_here = le-ltb position position (omega arith)
+
+  pub source-skipped : has_edges es position ≡ false → SourcesUpTo es (position + 1) old
+  source-skipped none = record { apart = so_far.apart; known = so_far.known; among = λ a v at. so_far.among a v at ∙ by a (cases_Bool (eqb a position)) }
+    where
+      by : (a : ℕ) → (eqb a position ≡ true) ⊎ (eqb a position ≡ false) → (nat_lt a position && has_edges es a) ≡ (nat_lt a (position + 1) && has_edges es a)
+      by a (inl same) =
+          let is : a ≡ position = eqb-true a position same in
+          subst (λ k. (nat_lt k position && has_edges es k) ≡ (nat_lt k (position + 1) && has_edges es k)) (sym is) (ap (λ b. b && has_edges es position) not_here ∙ sym none ∙ sym (ap (λ b. b && has_edges es position) here))
+      by a (inr other) = ap (λ b. b && has_edges es a) (sym (before a (eqb-false a position other)))
+
+  pub source-put : (v : Name) (new : List Name) → slice_get (keys_of es) position ≡ Some v → has_edges es position ≡ true → new ≡ old ++ v ∷ [] → SourcesUpTo es (position + 1) new
+  source-put v new at some is = subst (SourcesUpTo es (position + 1)) (sym is) (record {
+    apart = IsDistinct-push nat_list_eq_equiv old v so_far.apart (so_far.among position v at ∙ ap (λ b. b && has_edges es position) not_here);
+    known = λ w h. known w (or_cases (list_any (same_name w) old) (same_name w v) (sym (any_push (same_name w) old v) ∙ h));
+    among = λ a w there. any_push (same_name w) old v ∙ by a w there (cases_Bool (same_name w v));
+  })
+    where
+      known : (w : Name) → (list_any (same_name w) old ≡ true) ⊎ (same_name w v ≡ true) → list_any (same_name w) (keys_of es) ≡ true
+      known w (inl h) = so_far.known w h
+      known w (inr same) = subst (λ (n : Name). list_any (same_name n) (keys_of es) ≡ true) (sym (same_bytes w v same)) (place-known (keys_of es) position v at)
+
+      by : (a : ℕ) (w : Name) → slice_get (keys_of es) a ≡ Some w → (same_name w v ≡ true) ⊎ (same_name w v ≡ false) → (list_any (same_name w) old || same_name w v) ≡ (nat_lt a (position + 1) && has_edges es a)
+      by a w there (inl same) =
+          let is : a ≡ position = one-position es ok a position v (there ∙ ap Some (same_bytes w v same)) at in
+          or_right (list_any (same_name w) old) (same_name w v) same ∙ sym (ap (λ k. nat_lt k (position + 1) && has_edges es k) is ∙ and_from (nat_lt position (position + 1)) (has_edges es position) here some)
+      by a w there (inr other) =
+          let apart : a ≡ position → ⊥ = λ is. false≢true (sym other ∙ ap (λ (n : Name). same_name n v) (same_Some w v (sym there ∙ ap (slice_get (keys_of es)) is ∙ at)) ∙ same_refl v) in
+          ap (λ b. list_any (same_name w) old || b) other ∙ or_none (list_any (same_name w) old) ∙ so_far.among a w there ∙ ap (λ b. b && has_edges es a) (sym (before a apart))
+
+-- by what is found at the next position
+module _ (es : Entries) (ok : IsGraph es) (position : ℕ) (low : position < length (keys_of es)) (old : List Name) where
+  pub source-found : (new : List Name) → SourcesUpTo es position old → (v : Name) → IsSourceAt es position (Some v) → new ≡ old ++ v ∷ [] → SourcesUpTo es (position + 1) new
+  source-found new so_far v at more = by (cases_Bool (has_edges es position))
+    where
+      by : (has_edges es position ≡ true) ⊎ (has_edges es position ≡ false) → SourcesUpTo es (position + 1) new
+      by (inl some) = source-put es ok position old so_far v new (sym (at ∙ ap (λ b. if b then slice_get (keys_of es) position else None) some)) some more
+      by (inr none) = absurd (none-some v (sym (at ∙ ap (λ b. if b then slice_get (keys_of es) position else None) none)))
+
+  pub source-missing : SourcesUpTo es position old → (if has_edges es position then slice_get (keys_of es) position else None) ≡ None → SourcesUpTo es (position + 1) old
+  source-missing so_far at = by (cases_Bool (has_edges es position))
+    where
+      by : (has_edges es position ≡ true) ⊎ (has_edges es position ≡ false) → SourcesUpTo es (position + 1) old
+      by (inl some) = absurd (names-past es position low (sym (ap (λ b. if b then slice_get (keys_of es) position else None) some) ∙ at))
+      by (inr none) = source-skipped es ok position old so_far none
+
+pub sources-whole : (es : Entries) (count : ℕ) (all names : List Name) → length (keys_of es) ≤ count → SourcesUpTo es count all → IsPermutation all names → IsSorted (slice_cmp nat_cmp) names → AreSources es names
+sources-whole es count all names high so_far moved sorted = record {
+  sorted = strict_from_sorted names sorted (IsDistinct-IsPermutation bytes_eq nat_list_eq_equiv.symm all names moved so_far.apart);
+  known = λ v h. so_far.known v (list_any-IsPermutation (same_name v) all names moved ∙ h);
+  among = λ a v at. sym (list_any-IsPermutation (same_name v) all names moved) ∙ so_far.among a v at ∙ ap (λ b. b && has_edges es a) (lt-ltb a count (within a v at));
+}
+  where
+    within : (a : ℕ) (v : Name) → slice_get (keys_of es) a ≡ Some v → a < count
+    within a v at = let low = slice_get_within (keys_of es) a v at in omega (arith, low, high)
 
 -- ---- the rules for one row
 module _ (es : Entries) (ok : IsGraph es) (right : Right) (y : Name) (free : Name → Bool) (u : Name) (a : ℕ) (at_u : slice_get (keys_of es) a ≡ Some u) where
@@ -247,7 +325,7 @@ pub record RulesUpTo (es : Entries) (right : Right) (y : Name) (free : Name → 
   pub all : (u : Name) (lost : Right) (v : Name) → list_any (same_name u) (take count names) ≡ true → ((graph_of es).holds u lost v && is_lost right y free u v lost) ≡ true → are_taken rules u lost v ≡ true
   pub order : AreInOrder (edges_of rules)
 
-module _ (es : Entries) (ok : IsGraph es) (right : Right) (y : Name) (free : Name → Bool) (names : List Name) (are : AreNames es names) where
+module _ (es : Entries) (ok : IsGraph es) (right : Right) (y : Name) (free : Name → Bool) (names : List Name) (are : AreSources es names) where
   pub up-none : (rules : List Rule) → rules ≡ [] → RulesUpTo es right y free names 0 rules
   up-none rules none = subst (RulesUpTo es right y free names 0) (sym none) (record { each = tt; among = tt; all = λ u lost v among h. absurd (both_ways (list_any (same_name u) (take 0 names)) (none_taken (same_name u) names) among); order = tt })
 
@@ -298,13 +376,21 @@ module _ (es : Entries) (ok : IsGraph es) (right : Right) (y : Name) (free : Nam
   pub up-more : (count : ℕ) (u : Name) (old new : List Rule) → slice_get names count ≡ Some u → RulesUpTo es right y free names count old → (a : ℕ) × (slice_get (keys_of es) a ≡ Some u) × AddsRules es right y free u a (length (row_number es a)) old new → RulesUpTo es right y free names (count + 1) new
   up-more count u old new at so_far (a, at_u, adds) = subst (RulesUpTo es right y free names (count + 1)) (sym adds.is) (up-row count u at a at_u old adds.more so_far adds.rules)
 
+  -- whoever holds something is in the list
+  has_name : (u : Name) (lost : Right) (v : Name) → has_vertex (graph_of es) u ≡ true → (graph_of es).holds u lost v ≡ true → list_any (same_name u) names ≡ true
+  has_name u lost v known h =
+      let p = place_of (keys_of es) u known in
+      let q = place-holds es ok p.0 u p.1 lost v h in
+      let low = slice_get_within (row_number es p.0) q.0 (v, q.1) q.2 in
+      are.among p.0 u p.1 ∙ lt-ltb 0 (length (row_number es p.0)) (omega (arith, low))
+
   pub up-whole : (count : ℕ) (rules : List Rule) → WellFormed (graph_of es) → length names ≤ count → RulesUpTo es right y free names count rules → AreLosses (graph_of es) right y free rules
   up-whole count rules well high s = record {
     each = s.each;
-    all = λ u lost v h. s.all u lost v (ap (list_any (same_name u)) (take_all count names high) ∙ are.among u ∙ (well.ends u lost v (and_parts ((graph_of es).holds u lost v) (is_lost right y free u v lost) h).0).0) h;
+    all = λ u lost v h. let held = (and_parts ((graph_of es).holds u lost v) (is_lost right y free u v lost) h).0 in s.all u lost v (ap (list_any (same_name u)) (take_all count names high) ∙ has_name u lost v (well.ends u lost v held).0 held) h;
     order = s.order;
   }
 
   -- a name of the list is a vertex
   pub name-known : (count : ℕ) (u : Name) → slice_get names count ≡ Some u → list_any (same_name u) (keys_of es) ≡ true
-  name-known count u at = sym (are.among u) ∙ place-known names count u at
+  name-known count u at = are.known u (place-known names count u at)

@@ -1,5 +1,5 @@
 -- What the parts of a least cut's making bring: the edges of a network, the two sides of a cut, and what each edge loses.
-use Rattle.std.specs.Prelude.{◌≡◌, ◌⊎◌, ◌<◌, ℕ, Bool, true, false, ◌&&◌, ◌||◌, not, List, [], ◌∷◌, ◌++◌, length, slice_get, slice_index_or, bytes_eq, position, Option, Some, None}
+use Rattle.std.specs.Prelude.{◌≡◌, ◌⊎◌, ◌<◌, ℕ, Bool, true, false, ◌&&◌, ◌||◌, not, nat_lt, if◌then◌else◌, List, [], ◌∷◌, ◌++◌, length, slice_get, slice_index_or, bytes_eq, position, Option, Some, None}
 use Rattle.std.specs.List.{list_any, AllByRecursion}
 use Rattle.std.specs.List.Sorted.{IsStrictlySortedBy}
 use Rattle.std.specs.Option.{option_map_or}
@@ -175,10 +175,19 @@ pub record AddsRules (es : Entries) (right : Right) (y : Name) (free : Name → 
   pub is : new ≡ old ++ more
   pub rules : RowRules es right y free u a count more
 
--- the names of the vertices in their order
-pub record AreNames (es : Entries) (names : List Name) : Type 0 where
+-- whether edges go out of the vertex at a position
+abbrev pub has_edges : Entries → ℕ → Bool
+has_edges es a = nat_lt 0 (length (row_number es a))
+
+-- the name is that of the vertex at a position, where edges go out of it
+abbrev pub IsSourceAt : Entries → ℕ → Option Name → Type 0
+IsSourceAt es a found = found ≡ (if has_edges es a then slice_get (keys_of es) a else None)
+
+-- the names of the vertices that edges go out of, in their order
+pub record AreSources (es : Entries) (names : List Name) : Type 0 where
   pub sorted : IsStrictlySortedBy (slice_cmp nat_cmp) names
-  pub among : (v : Name) → list_any (same_name v) names ≡ list_any (same_name v) (keys_of es)
+  pub known : (v : Name) → list_any (same_name v) names ≡ true → list_any (same_name v) (keys_of es) ≡ true
+  pub among : (a : ℕ) (v : Name) → slice_get (keys_of es) a ≡ Some v → list_any (same_name v) names ≡ has_edges es a
 
 -- a rule takes from an edge all that it has to lose, and that is something
 pub record IsLossRule (g : ProtectionGraph) (right : Right) (y : Name) (free : Name → Bool) (rule : Rule) : Type 0 where

@@ -113,8 +113,8 @@ fn cut_of(
 /// that is no edge of the graph changes nothing.
 ///
 /// It sends units from x to those that hold the right over y, each edge carrying one at most, until no more can
-/// go. Its work is at most a pass over the edges for each such unit, and a few more. It takes 8 bytes an edge and
-/// 16 a vertex until the units have gone, and then 18 a vertex, beside the rules.
+/// go. Its work is at most a pass over the edges for each such unit, and a few more. It takes at most 8 bytes an
+/// edge and 16 a vertex, beside the rules.
 ///
 /// # Errors
 /// - `Unknown`: the name is no vertex, the first of x, y, and the ends of the kept edges in turn.

@@ -1,5 +1,5 @@
 //! What each edge has to lose, so that some vertices are free of a right over y.
-ghost use Rattle.std.specs.Prelude.{◌≡◌, ◌&&◌, not, ℕ, true, Some, IfOk, IfSome, MatchOption, OnOk, length, slice_get};
+ghost use Rattle.std.specs.Prelude.{◌≡◌, ◌≤◌, ◌&&◌, not, ℕ, true, Some, IfOk, IfSome, MatchOption, OnOk, length, slice_get};
 ghost use Rattle.std.specs.List.{list_any};
 ghost use Rattle.std.specs.Map.{keys_of};
 ghost use Rattle.tg_flow.specs.Courses.{is_in};
@@ -9,7 +9,7 @@ ghost use Rattle.tg_names.specs.Names.{same_name};
 ghost use Rattle.tg_graph.specs.GraphOf.{graph_of};
 ghost use Rattle.tg_rows.specs.Rows.{IsGraph, row_number};
 ghost use Rattle.tg_analysis.specs.Moves.{take_and_grant};
-ghost use Rattle.tg_cuts.specs.CutParts.{differ, IsLoss, free_of, TakesAt, TakesNone, AddsLoss, AddsRules, AreNames, AreLosses};
+ghost use Rattle.tg_cuts.specs.CutParts.{differ, IsLoss, free_of, TakesAt, TakesNone, AddsLoss, AddsRules, IsSourceAt, AreSources, AreLosses};
 
 use crate::network::name_of;
 use bitflags::Flags;
@@ -198,13 +198,37 @@ impl<'a> Freed<'a> {
     }
 }
 
-// The names of the vertices, in their order.
-fn names_in_order(alloc: Global, graph: &Graph) -> Result<Vec<Name>, AllocError>
-    ensures { IfOk result (λ names. AreNames graph.now names.items) }
+// The name of the vertex at a position, where edges go out of it.
+fn source_at(graph: &Graph, position: usize) -> Option<Name>
+    ensures { IsSourceAt graph.now position result }
 {
-    let mut names = Vec::with_capacity(alloc, graph.len())?;
+    if graph.row_len(position) > 0 {
+        graph.name_at(position)
+    } else {
+        None
+    }
+}
+
+// How many vertices have edges out of them.
+fn source_count(graph: &Graph) -> usize
+    ensures { result ≤ length (keys_of graph.now) }
+{
+    let mut count = 0;
     for position in 0..graph.len() {
-        if let Some(name) = graph.name_at(position) {
+        if source_at(graph, position).is_some() {
+            count += 1;
+        }
+    }
+    count
+}
+
+// The names of the vertices that edges go out of, in their order.
+fn sources_in_order(alloc: Global, graph: &Graph) -> Result<Vec<Name>, AllocError>
+    ensures { IfOk result (λ names. AreSources graph.now names.items) }
+{
+    let mut names = Vec::with_capacity(alloc, source_count(graph))?;
+    for position in 0..graph.len() {
+        if let Some(name) = source_at(graph, position) {
             names.push(name)?;
         }
     }
@@ -221,7 +245,7 @@ impl<'a> Freed<'a> {
             (free_of graph.now self.now.beyond.now) rules.items) }
     {
         let _ = graph.len();
-        let names = names_in_order(alloc, graph)?;
+        let names = sources_in_order(alloc, graph)?;
         let mut rules = Vec::new(alloc);
         for source in &names {
             self.add_source(graph, *source, &mut rules)?;
