@@ -15,6 +15,33 @@ use bitflags::Flags;
 use tg_names::{Name, Right, Rights};
 use tg_rows::Row;
 
+/// Where a vertex may stand, found once for a rule that looks at it several times. It decides no answer.
+#[derive(Clone, Copy)]
+pub(crate) struct Near {
+    /// The position of the vertex.
+    pub position: Option<usize>,
+    /// The number of its name among those that rows share.
+    pub number: Option<usize>,
+}
+
+impl Near {
+    // Nothing is known.
+    fn nowhere() -> Near {
+        Near {
+            position: None,
+            number: None,
+        }
+    }
+}
+
+/// Where the vertices that a rule names may stand, in its order. They decide no answer.
+#[derive(Clone, Copy)]
+pub(crate) struct NearRule {
+    pub first: Near,
+    pub second: Near,
+    pub third: Near,
+}
+
 /// What the rules read of a graph: the row of each vertex.
 pub(crate) trait Rows {
     ghost use Rattle.std.specs.Prelude.{◌≡◌, bytes_eq};
@@ -25,28 +52,38 @@ pub(crate) trait Rows {
     // The vertices with their rows.
     ghost entries: { Self → Entries };
 
-    /// The edges out of a vertex, or `None` for a name that is no vertex.
-    fn row(&self, x: Name) -> Option<&Row>
+    /// Where a vertex may stand.
+    fn near(&self, x: Name) -> Near;
+
+    /// The edges out of a vertex, which may stand there, or `None` for a name that is no vertex.
+    fn row(&self, x: Name, near: Near) -> Option<&Row>
         ensures { option_copied result ≡ lookup (bytes_eq x) (entries self.now) };
+}
+
+// Whether a name is a vertex, which may stand there.
+fn knows_near<R: Rows>(rows: &R, name: Name, near: Near) -> bool
+    ensures { result ≡ has_vertex (graph_of (R.entries rows.now)) name }
+{
+    match rows.row(name, near) {
+        Some(_) => true,
+        None => false,
+    }
 }
 
 /// Whether a name is a vertex.
 pub(crate) fn knows<R: Rows>(rows: &R, name: Name) -> bool
     ensures { result ≡ has_vertex (graph_of (R.entries rows.now)) name }
 {
-    match rows.row(name) {
-        Some(_) => true,
-        None => false,
-    }
+    knows_near(rows, name, rows.near(name))
 }
 
-// The edges out of a vertex, if the name is one.
-fn row_of<R: Rows>(rows: &R, x: Name) -> Option<&Row>
+// The edges out of a vertex, which may stand there, if the name is one.
+fn row_of<R: Rows>(rows: &R, x: Name, near: Near) -> Option<&Row>
     ensures { MatchOption result
         (has_vertex (graph_of (R.entries rows.now)) x ≡ false)
         (λ row. IsRowOf (R.entries rows.now) x row.now) }
 {
-    match rows.row(x) {
+    match rows.row(x, near) {
         Some(row) => Some(row),
         None => None,
     }
@@ -58,7 +95,7 @@ pub(crate) fn label_between<R: Rows>(rows: &R, x: Name, y: Name) -> Rights
     ensures label { result ≡ label_between (graph_of (R.entries rows.now)) x y }
     ensures named { IsNamed result }
 {
-    match rows.row(x) {
+    match rows.row(x, rows.near(x)) {
         Some(row) => row.label(y),
         None => Rights::empty(),
     }
@@ -76,66 +113,86 @@ pub(crate) fn holds<R: Rows>(rows: &R, x: Name, right: Right, y: Name) -> bool
 // The first refusal of a take.
 #[tactic(auto, unfolding(crate::specs::Rules::refusal_of, crate::specs::Rules::after))]
 #[inline(never)]
-fn check_take<R: Rows>(rows: &R, x: Name, y: Name, z: Name, rights: Rights) -> Result<(), Refusal>
+fn check_take<R: Rows>(
+    rows: &R,
+    near: &NearRule,
+    x: Name,
+    y: Name,
+    z: Name,
+    rights: Rights,
+) -> Result<(), Refusal>
     requires { IsNamed rights }
     ensures { result ≡ verdict
         (refusal_of (graph_of (R.entries rows.now)) (Rule.Take x y z rights)) }
 {
-    let Some(own) = row_of(rows, x) else {
+    let Some(own) = row_of(rows, x, near.first) else {
         return Err(Refusal::Unknown(x));
     };
-    let Some(other) = row_of(rows, y) else {
+    let Some(other) = row_of(rows, y, near.second) else {
         return Err(Refusal::Unknown(y));
     };
-    if !knows(rows, z) {
+    if !knows_near(rows, z, near.third) {
         return Err(Refusal::Unknown(z));
     }
     if rights.is_empty() {
         return Err(Refusal::Empty);
     }
-    if !own.label(y).has(Right::T) {
+    if !own.label_near(y, near.second.number).has(Right::T) {
         return Err(Refusal::NoTake);
     }
-    not_held(rights.difference(other.label(z)))
+    not_held(rights.difference(other.label_near(z, near.third.number)))
 }
 
 // The first refusal of a grant.
 #[tactic(auto, unfolding(crate::specs::Rules::refusal_of, crate::specs::Rules::after))]
 #[inline(never)]
-fn check_grant<R: Rows>(rows: &R, x: Name, y: Name, z: Name, rights: Rights) -> Result<(), Refusal>
+fn check_grant<R: Rows>(
+    rows: &R,
+    near: &NearRule,
+    x: Name,
+    y: Name,
+    z: Name,
+    rights: Rights,
+) -> Result<(), Refusal>
     requires { IsNamed rights }
     ensures { result ≡ verdict
         (refusal_of (graph_of (R.entries rows.now)) (Rule.Grant x y z rights)) }
 {
-    let Some(own) = row_of(rows, x) else {
+    let Some(own) = row_of(rows, x, near.first) else {
         return Err(Refusal::Unknown(x));
     };
-    if !knows(rows, y) {
+    if !knows_near(rows, y, near.second) {
         return Err(Refusal::Unknown(y));
     }
-    if !knows(rows, z) {
+    if !knows_near(rows, z, near.third) {
         return Err(Refusal::Unknown(z));
     }
     if rights.is_empty() {
         return Err(Refusal::Empty);
     }
-    if !own.label(y).has(Right::G) {
+    if !own.label_near(y, near.second.number).has(Right::G) {
         return Err(Refusal::NoGrant);
     }
-    not_held(rights.difference(own.label(z)))
+    not_held(rights.difference(own.label_near(z, near.third.number)))
 }
 
 // The first refusal of a create.
 #[tactic(auto, unfolding(crate::specs::Rules::refusal_of, crate::specs::Rules::after))]
 #[inline(never)]
-fn check_create<R: Rows>(rows: &R, x: Name, n: Name, rights: Rights) -> Result<(), Refusal>
+fn check_create<R: Rows>(
+    rows: &R,
+    near: &NearRule,
+    x: Name,
+    n: Name,
+    rights: Rights,
+) -> Result<(), Refusal>
     ensures { result ≡ verdict
         (refusal_of (graph_of (R.entries rows.now)) (Rule.Create x n rights)) }
 {
-    if !knows(rows, x) {
+    if !knows_near(rows, x, near.first) {
         return Err(Refusal::Unknown(x));
     }
-    if knows(rows, n) {
+    if knows_near(rows, n, near.second) {
         return Err(Refusal::Taken(n));
     }
     Ok(())
@@ -144,14 +201,20 @@ fn check_create<R: Rows>(rows: &R, x: Name, n: Name, rights: Rights) -> Result<(
 // The first refusal of a remove.
 #[tactic(auto, unfolding(crate::specs::Rules::refusal_of, crate::specs::Rules::after))]
 #[inline(never)]
-fn check_remove<R: Rows>(rows: &R, x: Name, y: Name, rights: Rights) -> Result<(), Refusal>
+fn check_remove<R: Rows>(
+    rows: &R,
+    near: &NearRule,
+    x: Name,
+    y: Name,
+    rights: Rights,
+) -> Result<(), Refusal>
     ensures { result ≡ verdict
         (refusal_of (graph_of (R.entries rows.now)) (Rule.Remove x y rights)) }
 {
-    if !knows(rows, x) {
+    if !knows_near(rows, x, near.first) {
         return Err(Refusal::Unknown(x));
     }
-    if !knows(rows, y) {
+    if !knows_near(rows, y, near.second) {
         return Err(Refusal::Unknown(y));
     }
     if rights.is_empty() {
@@ -160,18 +223,48 @@ fn check_remove<R: Rows>(rows: &R, x: Name, y: Name, rights: Rights) -> Result<(
     Ok(())
 }
 
-/// Whether the graph accepts a rule. The error is the first reason to refuse it.
+/// Where the vertices that a rule names may stand.
+pub(crate) fn near_rule<R: Rows>(rows: &R, rule: &Rule) -> NearRule {
+    match *rule {
+        Rule::Take { x, y, z, .. } | Rule::Grant { x, y, z, .. } => NearRule {
+            first: rows.near(x),
+            second: rows.near(y),
+            third: rows.near(z),
+        },
+        Rule::Create { x, n, .. } => NearRule {
+            first: rows.near(x),
+            second: rows.near(n),
+            third: Near::nowhere(),
+        },
+        Rule::Remove { x, y, .. } => NearRule {
+            first: rows.near(x),
+            second: rows.near(y),
+            third: Near::nowhere(),
+        },
+    }
+}
+
+/// Whether the graph accepts a rule, whose vertices may stand there. The error is the first reason to
+/// refuse it.
 #[tactic(auto, unfolding(crate::specs::Rules::refusal_of, crate::specs::Rules::after))]
-pub(crate) fn check<R: Rows>(rows: &R, rule: &Rule) -> Result<(), Refusal>
+pub(crate) fn check_near<R: Rows>(rows: &R, near: &NearRule, rule: &Rule) -> Result<(), Refusal>
     requires { IsNamed (rights_of rule.now) }
     ensures { result ≡ verdict (refusal_of (graph_of (R.entries rows.now)) rule.now) }
 {
     match *rule {
-        Rule::Take { x, y, z, rights } => check_take(rows, x, y, z, rights),
-        Rule::Grant { x, y, z, rights } => check_grant(rows, x, y, z, rights),
-        Rule::Create { x, n, rights } => check_create(rows, x, n, rights),
-        Rule::Remove { x, y, rights } => check_remove(rows, x, y, rights),
+        Rule::Take { x, y, z, rights } => check_take(rows, near, x, y, z, rights),
+        Rule::Grant { x, y, z, rights } => check_grant(rows, near, x, y, z, rights),
+        Rule::Create { x, n, rights } => check_create(rows, near, x, n, rights),
+        Rule::Remove { x, y, rights } => check_remove(rows, near, x, y, rights),
     }
+}
+
+/// Whether the graph accepts a rule. The error is the first reason to refuse it.
+pub(crate) fn check<R: Rows>(rows: &R, rule: &Rule) -> Result<(), Refusal>
+    requires { IsNamed (rights_of rule.now) }
+    ensures { result ≡ verdict (refusal_of (graph_of (R.entries rows.now)) rule.now) }
+{
+    check_near(rows, &near_rule(rows, rule), rule)
 }
 
 // The refusal for rights that are not held, if there are such.

@@ -10,7 +10,7 @@ ghost use Rattle.tg_graph.specs.GraphOf.{graph_of};
 ghost use Rattle.tg_graph.specs.Rules.{verdict, Applies, rights_of, with_rights, without_rights, with_vertex, refusal_of, after};
 ghost use Rattle.tg_graph.specs.Drafts.{laid_over, Fits, IsDraft, PutsRow, ArePositionsOf, NotesPosition, written_by, FittingIsByNames, ApartFit, ApartCommute};
 
-use crate::checks::{self, Rows};
+use crate::checks::{self, Near, Rows};
 use crate::protection::Graph;
 use crate::row_maps;
 use crate::rules::{Refusal, Rule, RuleFault};
@@ -54,11 +54,15 @@ struct Laid<'a> {
 impl<'a> Rows for Laid<'a> {
     ghost entries = { λ l. laid_over l.base.now l.draft.now };
 
-    fn row(&self, x: Name) -> Option<&Row> {
+    fn near(&self, x: Name) -> Near {
+        self.base.near(x)
+    }
+
+    fn row(&self, x: Name, near: Near) -> Option<&Row> {
         let draft = self.draft;
         match draft.rows.get(&x) {
             Some(row) => Some(row.edges()),
-            None => self.base.row(x),
+            None => self.base.row(x, near),
         }
     }
 }

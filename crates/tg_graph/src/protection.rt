@@ -12,7 +12,7 @@ ghost use Rattle.tg_graph.specs.Rules.{refusal_of, verdict, Applies, rights_of, 
 ghost use Rattle.tg_names.specs.Sets.{is_empty_set};
 ghost use Rattle.tg_graph.specs.Additions.{AddsVertex, AddsEdge, label_at, label_between, Runs, AreNamed};
 
-use crate::checks::{self, Rows};
+use crate::checks::{self, Near, Rows};
 use crate::row_maps;
 use crate::rules::{Refusal, Rule, RuleFault};
 use bitflags::Flags;
@@ -125,8 +125,21 @@ impl From<AllocError> for EdgeFault {
 impl Rows for Graph {
     ghost entries = { λ g. g };
 
-    fn row(&self, x: Name) -> Option<&Row> {
-        let Some(place) = self.position_near(self.source, x) else {
+    fn near(&self, x: Name) -> Near {
+        // The source of the edge that was added last stands there without a look at the slots.
+        let position = if row_maps::stands_at(&self.rows, x, self.source) {
+            Some(self.source)
+        } else {
+            self.likely_position(x)
+        };
+        Near {
+            position,
+            number: self.number_of(position),
+        }
+    }
+
+    fn row(&self, x: Name, near: Near) -> Option<&Row> {
+        let Some(place) = self.place_near(near, x) else {
             return None;
         };
         match self.rows.get_index(place) {
@@ -142,7 +155,12 @@ impl Graph {
         self.names.as_ref()?.likely_position(name)
     }
 
-    // The same, found by the order of the shared names.
+    // The number that the name of the vertex at a position mostly has among the shared names.
+    fn number_of(&self, position: Option<usize>) -> Option<usize> {
+        self.names.as_ref()?.number_at(position?)
+    }
+
+    // The position of a vertex, found by the order of the shared names. It decides no answer.
     fn position_in_order(&self, name: Name) -> Option<usize> {
         self.names.as_ref()?.position_in_order(name)
     }
@@ -244,15 +262,23 @@ impl Graph {
         }
     }
 
+    // The position of a vertex, which is likely this one.
+    #[inline(always)]
+    fn position_by(&self, likely: Option<usize>, name: Name) -> Option<usize>
+        ensures { result ≡ position (bytes_eq name) (keys_of self.now) }
+    {
+        match self.confirmed(likely, name) {
+            Some(number) => Some(number),
+            None => self.position_by_order(name),
+        }
+    }
+
     /// The position of a vertex, or `None` for a name that is no vertex.
     #[inline(always)]
     pub fn position(&self, name: Name) -> Option<usize>
         ensures { result ≡ position (bytes_eq name) (keys_of self.now) }
     {
-        match self.confirmed(self.likely_position(name), name) {
-            Some(number) => Some(number),
-            None => self.position_by_order(name),
-        }
+        self.position_by(self.likely_position(name), name)
     }
 
     /// The vertex at a position, or `None` past the last.
@@ -272,8 +298,8 @@ impl Graph {
         checks::holds(self, x, right, y)
     }
 
-    // Adds rights to the label of an edge.
-    fn give(&mut self, x: Name, y: Name, rights: Rights) -> Result<(), AllocError>
+    // Adds rights to the label of an edge, whose ends may stand there.
+    fn give(&mut self, x: Name, y: Name, rights: Rights, from: Near, to: Near) -> Result<(), AllocError>
         requires named { IsNamed rights }
         requires source { has_vertex (graph_of self.old) x ≡ true }
         requires target { has_vertex (graph_of self.old) y ≡ true }
@@ -281,13 +307,12 @@ impl Graph {
             (graph_of self.new ≡ with_rights (graph_of self.old) x y rights) }
         ensures err { OnErr result (self.new ≡ self.old) }
     {
-        let Some(source) = self.position_near(self.source, x) else {
+        let Some(source) = self.place_near(from, x) else {
             return Ok(());
         };
-        let names = self.names.as_ref();
         let hint = Hint {
-            names,
-            number: names.and_then(|names| names.likely_number(y)),
+            names: self.names.as_ref(),
+            number: to.number,
         };
         widen(&mut self.rows, source, x, y, rights, hint)?;
         Ok(())
@@ -380,15 +405,15 @@ impl Graph {
         checks::check(self, rule)
     }
 
-    // Takes rights out of the label of an edge.
-    fn withdraw(&mut self, x: Name, y: Name, rights: Rights) -> Result<(), AllocError>
+    // Takes rights out of the label of an edge, whose source may stand there.
+    fn withdraw(&mut self, x: Name, y: Name, rights: Rights, from: Near) -> Result<(), AllocError>
         requires named { IsNamed rights }
         requires source { has_vertex (graph_of self.old) x ≡ true }
         ensures taken { OnOk result
             (graph_of self.new ≡ without_rights (graph_of self.old) x y rights) }
         ensures err { OnErr result (self.new ≡ self.old) }
     {
-        let Some(source) = self.position_near(self.source, x) else {
+        let Some(source) = self.place_near(from, x) else {
             return Ok(());
         };
         let Some(row) = self.rows.get_index_mut(source) else {
@@ -405,12 +430,13 @@ impl Graph {
         ensures applied { Applies (graph_of self.old) rule.now result (graph_of self.new) }
         ensures kept { OnErr result (self.new ≡ self.old) }
     {
-        self.check(rule)?;
+        let near = checks::near_rule(self, rule);
+        checks::check_near(self, &near, rule)?;
         match *rule {
-            Rule::Take { x, z, rights, .. } => self.give(x, z, rights)?,
-            Rule::Grant { y, z, rights, .. } => self.give(y, z, rights)?,
+            Rule::Take { x, z, rights, .. } => self.give(x, z, rights, near.first, near.third)?,
+            Rule::Grant { y, z, rights, .. } => self.give(y, z, rights, near.second, near.third)?,
             Rule::Create { x, n, rights } => self.create(x, n, rights)?,
-            Rule::Remove { x, y, rights } => self.withdraw(x, y, rights)?,
+            Rule::Remove { x, y, rights } => self.withdraw(x, y, rights, near.first)?,
         }
         Ok(())
     }
@@ -426,6 +452,15 @@ impl Graph {
         } else {
             self.position(name)
         }
+    }
+
+    // The position of a vertex, which may stand there.
+    #[inline(always)]
+    fn place_near(&self, near: Near, name: Name) -> Option<usize>
+        ensures place { IfSome result (λ place. slice_get (keys_of self.now) place ≡ Some name) }
+        ensures known { is_some result ≡ has_vertex (graph_of self.now) name }
+    {
+        self.position_by(near.position, name)
     }
 
     // Shares the names of all vertices with the rows to come, where a target's name is not shared and
