@@ -113,10 +113,10 @@ fn narrow(
     ensures err { OnErr result (rows.new.entries ≡ rows.old.entries) }
 {
     match rows.get_mut(&x) {
-        Some(row) => row.take(y, rights),
+        Some(row) => row.take(y, rights, None),
         None => {
             let mut row = base.row_of(x)?;
-            row.take(y, rights)?;
+            row.take(y, rights, None)?;
             rows.insert(x, row)?;
             Ok(())
         }

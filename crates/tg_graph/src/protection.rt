@@ -405,8 +405,8 @@ impl Graph {
         checks::check(self, rule)
     }
 
-    // Takes rights out of the label of an edge, whose source may stand there.
-    fn withdraw(&mut self, x: Name, y: Name, rights: Rights, from: Near) -> Result<(), AllocError>
+    // Takes rights out of the label of an edge, whose ends may stand there.
+    fn withdraw(&mut self, x: Name, y: Name, rights: Rights, from: Near, to: Near) -> Result<(), AllocError>
         requires named { IsNamed rights }
         requires source { has_vertex (graph_of self.old) x ≡ true }
         ensures taken { OnOk result
@@ -419,7 +419,7 @@ impl Graph {
         let Some(row) = self.rows.get_index_mut(source) else {
             return Ok(());
         };
-        row.take(y, rights)?;
+        row.take(y, rights, to.number)?;
         Ok(())
     }
 
@@ -436,7 +436,7 @@ impl Graph {
             Rule::Take { x, z, rights, .. } => self.give(x, z, rights, near.first, near.third)?,
             Rule::Grant { y, z, rights, .. } => self.give(y, z, rights, near.second, near.third)?,
             Rule::Create { x, n, rights } => self.create(x, n, rights)?,
-            Rule::Remove { x, y, rights } => self.withdraw(x, y, rights, near.first)?,
+            Rule::Remove { x, y, rights } => self.withdraw(x, y, rights, near.first, near.second)?,
         }
         Ok(())
     }

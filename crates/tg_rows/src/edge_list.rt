@@ -105,11 +105,12 @@ impl EdgeList {
         }
     }
 
-    /// Where the edge to a vertex mostly is, or would go. It decides no answer.
-    pub fn likely_place(&self, target: Name) -> Option<usize> {
+    /// Where the edge to a vertex, whose name may have this number, mostly is, or would go. It decides no
+    /// answer.
+    pub fn likely_place(&self, target: Name, number: Option<usize>) -> Option<usize> {
         match &self.form {
             Form::Listed(edges) => edges.likely_place(target),
-            Form::ToAll(edges) => edges.likely_place(target),
+            Form::ToAll(edges) => edges.likely_place(target, number),
         }
     }
 

@@ -115,9 +115,12 @@ impl EdgesToAll {
         }
     }
 
-    /// Where the edge to a vertex mostly is. It decides no answer.
-    pub fn likely_place(&self, target: Name) -> Option<usize> {
-        self.shared.likely_number(target)
+    /// Where the edge to a vertex, whose name may have this number, mostly is. It decides no answer.
+    pub fn likely_place(&self, target: Name, number: Option<usize>) -> Option<usize> {
+        match self.shared.confirmed(number, target) {
+            Some(number) => Some(number),
+            None => self.shared.likely_number(target),
+        }
     }
 
     /// The position that the target of the edge at a place mostly has. It decides no answer.

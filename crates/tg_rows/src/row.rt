@@ -183,12 +183,12 @@ impl Row {
     // Where the edge to y is, or where it would go, found by names. It is found at once where there are
     // edges to all the vertices whose names the rows share.
     #[inline(never)]
-    fn place_by_names(&self, y: Name) -> Result<usize, usize>
+    fn place_by_names(&self, y: Name, likely: Option<usize>) -> Result<usize, usize>
         ensures found { IfOk result (IsPlaceOf self.now y) }
         ensures absent { IfErr result (IsGapFor self.now y) }
         ensures row { IsRow self.now }
     {
-        match self.edges.likely_place(y) {
+        match self.edges.likely_place(y, likely) {
             Some(place) if self.is_at(place, y) => Ok(place),
             Some(place) if self.is_gap(place, y) => Err(place),
             _ => self.place_by_halves(y),
@@ -205,7 +205,7 @@ impl Row {
     {
         match self.edges.place_by_number(y, likely) {
             Some(place) => place,
-            None => self.place_by_names(y),
+            None => self.place_by_names(y, likely),
         }
     }
 
@@ -386,14 +386,20 @@ impl Row {
         }
     }
 
-    /// Takes rights out of the label of the edge to a vertex.
-    pub fn take(&mut self, y: Name, rights: Rights) -> Result<(), AllocError>
+    /// Takes rights out of the label of the edge to a vertex, whose name may have this number among those
+    /// that rows share.
+    pub fn take(
+        &mut self,
+        y: Name,
+        rights: Rights,
+        likely: Option<usize>,
+    ) -> Result<(), AllocError>
         requires { IsNamed rights }
         ensures taken { OnOk result (TakesAway self.old self.new y rights) }
         ensures err { OnErr result (self.new ≡ self.old) }
         ensures row { IsRow self.new }
     {
-        let Ok(place) = self.place(y) else {
+        let Ok(place) = self.place_near(y, likely) else {
             return Ok(());
         };
         let left = Flags::difference(self.label_at(place, y), rights);

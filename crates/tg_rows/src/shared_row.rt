@@ -126,15 +126,21 @@ impl SharedRow {
         }
     }
 
-    /// Takes rights out of the label of the edge to a vertex.
-    pub fn take(&mut self, y: Name, rights: Rights) -> Result<(), AllocError>
+    /// Takes rights out of the label of the edge to a vertex, whose name may have this number among those
+    /// that rows share.
+    pub fn take(
+        &mut self,
+        y: Name,
+        rights: Rights,
+        likely: Option<usize>,
+    ) -> Result<(), AllocError>
         requires { IsNamed rights }
         ensures taken { OnOk result (TakesAway self.old self.new y rights) }
         ensures row { OnOk result (IsRow self.new) }
         ensures err { OnErr result (self.new ≡ self.old) }
     {
         let row = Arc::make_mut(&mut self.row)?;
-        row.take(y, rights)?;
+        row.take(y, rights, likely)?;
         Ok(())
     }
 }
