@@ -299,7 +299,14 @@ impl Graph {
     }
 
     // Adds rights to the label of an edge, whose ends may stand there.
-    fn give(&mut self, x: Name, y: Name, rights: Rights, from: Near, to: Near) -> Result<(), AllocError>
+    fn give(
+        &mut self,
+        x: Name,
+        y: Name,
+        rights: Rights,
+        from: Near,
+        to: Near,
+    ) -> Result<(), AllocError>
         requires named { IsNamed rights }
         requires source { has_vertex (graph_of self.old) x ≡ true }
         requires target { has_vertex (graph_of self.old) y ≡ true }
@@ -406,7 +413,14 @@ impl Graph {
     }
 
     // Takes rights out of the label of an edge, whose ends may stand there.
-    fn withdraw(&mut self, x: Name, y: Name, rights: Rights, from: Near, to: Near) -> Result<(), AllocError>
+    fn withdraw(
+        &mut self,
+        x: Name,
+        y: Name,
+        rights: Rights,
+        from: Near,
+        to: Near,
+    ) -> Result<(), AllocError>
         requires named { IsNamed rights }
         requires source { has_vertex (graph_of self.old) x ≡ true }
         ensures taken { OnOk result

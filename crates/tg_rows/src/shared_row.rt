@@ -128,12 +128,7 @@ impl SharedRow {
 
     /// Takes rights out of the label of the edge to a vertex, whose name may have this number among those
     /// that rows share.
-    pub fn take(
-        &mut self,
-        y: Name,
-        rights: Rights,
-        likely: Option<usize>,
-    ) -> Result<(), AllocError>
+    pub fn take(&mut self, y: Name, rights: Rights, likely: Option<usize>) -> Result<(), AllocError>
         requires { IsNamed rights }
         ensures taken { OnOk result (TakesAway self.old self.new y rights) }
         ensures row { OnOk result (IsRow self.new) }
