@@ -105,12 +105,11 @@ impl EdgeList {
         }
     }
 
-    /// Where the edge to a vertex, whose name may have this number, mostly is, or would go. It decides no
-    /// answer.
-    pub fn likely_place(&self, target: Name, number: Option<usize>) -> Option<usize> {
+    /// Where the edge to a vertex mostly is, or would go. It decides no answer.
+    pub fn likely_place(&self, target: Name) -> Option<usize> {
         match &self.form {
             Form::Listed(edges) => edges.likely_place(target),
-            Form::ToAll(edges) => edges.likely_place(target, number),
+            Form::ToAll(edges) => edges.likely_place(target),
         }
     }
 
@@ -136,7 +135,7 @@ impl EdgeList {
     {
         match &self.form {
             Form::Listed(edges) => edges.place_by_number(target, likely),
-            Form::ToAll(_) => None,
+            Form::ToAll(edges) => Some(Ok(edges.place_by_number(target, likely)?)),
         }
     }
 

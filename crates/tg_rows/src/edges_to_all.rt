@@ -1,6 +1,7 @@
 //! The edges of one row that has an edge to each of the shared names: a byte an edge.
 ghost use Rattle.std.specs.Prelude.{◌≡◌, ◌<◌, ℕ, List, [], ◌∷◌, ◌++◌, if◌then◌else◌, IfOk, IfSome, OnErr, length, slice_get, slice_index_or, slice_set, zip};
 ghost use Rattle.tg_names.specs.declared.right_sets.Rights.{Rights};
+ghost use Rattle.tg_rows.specs.Rows.{IsPlaceOf};
 
 use crate::listed_edges::ListedEdges;
 use crate::shared_names::{Hint, SharedNames};
@@ -115,11 +116,21 @@ impl EdgesToAll {
         }
     }
 
-    /// Where the edge to a vertex, whose name may have this number, mostly is. It decides no answer.
-    pub fn likely_place(&self, target: Name, number: Option<usize>) -> Option<usize> {
-        match self.shared.confirmed(number, target) {
-            Some(number) => Some(number),
-            None => self.shared.likely_number(target),
+    /// Where the edge to a vertex mostly is. It decides no answer.
+    pub fn likely_place(&self, target: Name) -> Option<usize> {
+        self.shared.likely_number(target)
+    }
+
+    /// Where the edge to a vertex is, where its name has this number.
+    #[inline(always)]
+    pub fn place_by_number(&self, target: Name, number: Option<usize>) -> Option<usize>
+        ensures { IfSome result (IsPlaceOf self.now target) }
+    {
+        let place = number?;
+        if place < self.len() && self.target(place) == target {
+            Some(place)
+        } else {
+            None
         }
     }
 

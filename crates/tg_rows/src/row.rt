@@ -183,39 +183,30 @@ impl Row {
     // Where the edge to y is, or where it would go, found by names. It is found at once where there are
     // edges to all the vertices whose names the rows share.
     #[inline(never)]
-    fn place_by_names(&self, y: Name, likely: Option<usize>) -> Result<usize, usize>
+    fn place_by_names(&self, y: Name) -> Result<usize, usize>
         ensures found { IfOk result (IsPlaceOf self.now y) }
         ensures absent { IfErr result (IsGapFor self.now y) }
         ensures row { IsRow self.now }
     {
-        match self.edges.likely_place(y, likely) {
+        match self.edges.likely_place(y) {
             Some(place) if self.is_at(place, y) => Ok(place),
             Some(place) if self.is_gap(place, y) => Err(place),
             _ => self.place_by_halves(y),
         }
     }
 
-    // Where the edge to y is, or where it would go. Mostly the numbers of names tell it, and names are
-    // looked at where they do not. That of y may be known; it decides no answer.
+    /// Where the edge to y is, or where it would go. Mostly the numbers of names tell it, and names are
+    /// looked at where they do not. The name y may have this number among those that rows share.
     #[inline(always)]
-    fn place_near(&self, y: Name, likely: Option<usize>) -> Result<usize, usize>
+    pub fn place(&self, y: Name, likely: Option<usize>) -> Result<usize, usize>
         ensures found { IfOk result (IsPlaceOf self.now y) }
         ensures absent { IfErr result (IsGapFor self.now y) }
         ensures row { IsRow self.now }
     {
         match self.edges.place_by_number(y, likely) {
             Some(place) => place,
-            None => self.place_by_names(y, likely),
+            None => self.place_by_names(y),
         }
-    }
-
-    /// Where the edge to y is, or where it would go.
-    pub fn place(&self, y: Name) -> Result<usize, usize>
-        ensures found { IfOk result (IsPlaceOf self.now y) }
-        ensures absent { IfErr result (IsGapFor self.now y) }
-        ensures row { IsRow self.now }
-    {
-        self.place_near(y, None)
     }
 
     // Whether each target in front of the place is below y.
@@ -261,7 +252,7 @@ impl Row {
         if self.in_turn && self.is_gap(self.next, y) {
             Err(self.next)
         } else {
-            self.place_near(y, likely)
+            self.place(y, likely)
         }
     }
 
@@ -279,7 +270,7 @@ impl Row {
     fn label_by_place(&self, y: Name, likely: Option<usize>) -> Rights
         ensures { result ≡ label_in self.now y }
     {
-        match self.place_near(y, likely) {
+        match self.place(y, likely) {
             Ok(place) => self.label_at(place, y),
             Err(_place) => Rights::empty(),
         }
@@ -386,17 +377,14 @@ impl Row {
         }
     }
 
-    /// Takes rights out of the label of the edge to a vertex, whose name may have this number among those
-    /// that rows share.
-    pub fn take(&mut self, y: Name, rights: Rights, likely: Option<usize>) -> Result<(), AllocError>
-        requires { IsNamed rights }
+    /// Takes rights out of the label of the edge to y, which is at the place.
+    pub fn take(&mut self, place: usize, y: Name, rights: Rights) -> Result<(), AllocError>
+        requires place { IsPlaceOf self.old y place }
+        requires named { IsNamed rights }
         ensures taken { OnOk result (TakesAway self.old self.new y rights) }
         ensures err { OnErr result (self.new ≡ self.old) }
         ensures row { IsRow self.new }
     {
-        let Ok(place) = self.place_near(y, likely) else {
-            return Ok(());
-        };
         let left = Flags::difference(self.label_at(place, y), rights);
         if left.is_empty() {
             self.cut(place, y)?;
