@@ -6,8 +6,8 @@ ghost use Rattle.tg_names.specs.Sets.{IsNamed};
 ghost use Rattle.tg_reports.specs.Outcomes.{PlaysRule, nothing_played, played_so_far};
 
 use std::alloc::{AllocError, Global};
-use tg_graph::{Graph, Reply, RuleFault};
-use tg_text::{LONGEST_NUMBER, LONGEST_REPLY, RuleLine, RuleSink, append_number, append_reply};
+use tg_graph::{Graph, Reply, Rule, RuleFault};
+use tg_text::{LONGEST_NUMBER, LONGEST_REPLY, RuleSink, append_number, append_reply};
 
 // As many bytes as the line of a reply has at most, with its line feed.
 const LONGEST_REPLY_LINE: usize = LONGEST_NUMBER + LONGEST_REPLY + 2;
@@ -23,24 +23,29 @@ fn end_with_done(text: &mut Vec<u8>)
 }
 
 // Carries out a rule, and appends its reply. It answers whether the rule was accepted.
-fn play_rule(text: &mut Vec<u8>, graph: &mut Graph, rule: &RuleLine) -> Result<bool, AllocError>
-    requires { IsNamed (rights_of rule.now.rule) }
+fn play_rule(
+    text: &mut Vec<u8>,
+    graph: &mut Graph,
+    line: usize,
+    rule: &Rule,
+) -> Result<bool, AllocError>
+    requires { IsNamed (rights_of rule.now) }
     ensures played { IfOk result
-        (λ accepted. PlaysRule rule.now accepted text.old.items text.new.items (graph_of graph.old)
-        (graph_of graph.new)) }
+        (λ accepted. PlaysRule (record { line = line; rule = rule.now }) accepted text.old.items
+        text.new.items (graph_of graph.old) (graph_of graph.new)) }
     ensures kept_text { OnErr result (text.new.items ≡ text.old.items) }
     ensures kept_graph { OnErr result (graph.new ≡ graph.old) }
 {
     // With room for the whole line nothing fails once the graph has changed.
     text.reserve(LONGEST_REPLY_LINE)?;
-    match graph.apply(&rule.rule) {
+    match graph.apply(rule) {
         Ok(()) => {
-            append_number(text, rule.line)?;
+            append_number(text, line)?;
             end_with_done(text);
             Ok(true)
         }
         Err(RuleFault::Refused(refusal)) => {
-            append_number(text, rule.line)?;
+            append_number(text, line)?;
             text.push_reserved(b' ');
             append_reply(text, &Reply::Refused(refusal))?;
             text.push_reserved(b'\n');
@@ -86,11 +91,11 @@ impl RuleSink for AppliedRules {
 
     ghost IsSound = { λ _. ⊤ };
 
-    fn put(&mut self, rule: RuleLine) -> Result<(), AllocError> {
+    fn put(&mut self, line: usize, rule: &Rule) -> Result<(), AllocError> {
         if self.status > 0 {
             return Ok(());
         }
-        if !play_rule(&mut self.replies, &mut self.graph, &rule)? {
+        if !play_rule(&mut self.replies, &mut self.graph, line, rule)? {
             self.status = 1;
         }
         Ok(())

@@ -97,7 +97,9 @@ fn two_names(bytes: &[u8]) -> Option<(Name, Name, &[u8], &[u8])>
     let Some(second) = cut_name(first.1) else {
         return None;
     };
-    let cut = cut_letters(second.1)?;
+    let Some(cut) = cut_letters(second.1) else {
+        return None;
+    };
     Some((first.0, second.0, cut.0, cut.1))
 }
 
@@ -150,7 +152,9 @@ fn cut_take(bytes: &[u8]) -> Option<(Rule, &[u8], &[u8])>
     let Some(found) = three_names(bytes) else {
         return None;
     };
-    let rights = Rights::from_letters(found.3)?;
+    let Some(rights) = Rights::from_letters(found.3) else {
+        return None;
+    };
     let rule = Rule::Take {
         x: found.0,
         y: found.1,
@@ -173,7 +177,9 @@ fn cut_grant(bytes: &[u8]) -> Option<(Rule, &[u8], &[u8])>
     let Some(found) = three_names(bytes) else {
         return None;
     };
-    let rights = Rights::from_letters(found.3)?;
+    let Some(rights) = Rights::from_letters(found.3) else {
+        return None;
+    };
     let rule = Rule::Grant {
         x: found.0,
         y: found.1,
@@ -196,7 +202,9 @@ fn cut_create(bytes: &[u8]) -> Option<(Rule, &[u8], &[u8])>
     let Some(found) = two_names(bytes) else {
         return None;
     };
-    let rights = Rights::from_letters(found.2)?;
+    let Some(rights) = Rights::from_letters(found.2) else {
+        return None;
+    };
     let rule = Rule::Create {
         x: found.0,
         n: found.1,
@@ -218,7 +226,9 @@ fn cut_remove(bytes: &[u8]) -> Option<(Rule, &[u8], &[u8])>
     let Some(found) = two_names(bytes) else {
         return None;
     };
-    let rights = Rights::from_letters(found.2)?;
+    let Some(rights) = Rights::from_letters(found.2) else {
+        return None;
+    };
     let rule = Rule::Remove {
         x: found.0,
         y: found.1,

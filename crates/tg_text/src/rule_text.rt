@@ -112,11 +112,13 @@ pub trait RuleSink {
     // What holds of all that is made.
     ghost IsSound: { Self → Type 0 };
 
-    /// Takes the next rule. The error is want of memory, and the rule is not taken then.
-    fn put(&mut self, rule: RuleLine) -> Result<(), AllocError>
+    /// Takes the next rule, from the line with this number. The error is want of memory, and the rule is
+    /// not taken then.
+    fn put(&mut self, line: usize, rule: &Rule) -> Result<(), AllocError>
         requires sound { IsSound self.old }
-        requires named { IsNamed (rights_of rule.rule) }
-        ensures made { OnOk result (made self.new ≡ with_rule (made self.old) rule) }
+        requires named { IsNamed (rights_of rule.now) }
+        ensures made { OnOk result
+            (made self.new ≡ with_rule (made self.old) (record { line = line; rule = rule.now })) }
         ensures kept { OnErr result (made self.new ≡ made self.old) }
         ensures sound { IsSound self.new };
 }
@@ -134,9 +136,8 @@ impl RuleSink for Vec<RuleLine> {
 
     ghost IsSound = { λ rules. AreNamedLines rules.items };
 
-    fn put(&mut self, rule: RuleLine) -> Result<(), AllocError> {
-        let RuleLine { line, rule } = rule;
-        self.push(RuleLine { line, rule })?;
+    fn put(&mut self, line: usize, rule: &Rule) -> Result<(), AllocError> {
+        self.push(RuleLine { line, rule: *rule })?;
         Ok(())
     }
 }
@@ -174,7 +175,7 @@ fn add_rule<S: RuleSink>(
     if rules.is_full() {
         return Err(LineFault::Kind(TextKind::TooMany));
     }
-    let Ok(()) = rules.sink.put(RuleLine { line, rule }) else {
+    let Ok(()) = rules.sink.put(line, &rule) else {
         return Err(LineFault::Memory);
     };
     rules.count += 1;
@@ -201,8 +202,7 @@ fn add_plain_rule<'a, S: RuleSink>(
     if rules.is_full() {
         return None;
     }
-    let rule = found.0;
-    let Ok(()) = rules.sink.put(RuleLine { line, rule }) else {
+    let Ok(()) = rules.sink.put(line, &found.0) else {
         return None;
     };
     rules.count += 1;

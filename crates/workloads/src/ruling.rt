@@ -6,8 +6,8 @@ use crate::plans::{Edges, Labels, Plan, Spelling};
 use crate::sizes::Size;
 use crate::texts::{graph, names, words};
 use std::alloc::{AllocError, Global};
-use tg_graph::{Graph, Name, Reply, RuleFault};
-use tg_text::{RuleLine, RuleSink, append_number, append_reply, read_rules_into};
+use tg_graph::{Graph, Name, Reply, Rule, RuleFault};
+use tg_text::{RuleSink, append_number, append_reply, read_rules_into};
 
 // A graph, and the replies to the rules that were carried out on it.
 #[derive(Drop)]
@@ -25,13 +25,13 @@ impl RuleSink for Ruled {
 
     ghost IsSound = { λ _. Unit {0} };
 
-    fn put(&mut self, rule: RuleLine) -> Result<(), AllocError> {
-        let reply = match self.graph.apply(&rule.rule) {
+    fn put(&mut self, line: usize, rule: &Rule) -> Result<(), AllocError> {
+        let reply = match self.graph.apply(rule) {
             Ok(()) => Reply::Done,
             Err(RuleFault::Refused(refusal)) => Reply::Refused(refusal),
             Err(RuleFault::Memory) => return Err(AllocError),
         };
-        append_number(&mut self.replies, rule.line)?;
+        append_number(&mut self.replies, line)?;
         self.replies.push(b' ')?;
         append_reply(&mut self.replies, &reply)?;
         self.replies.push(b'\n')?;
