@@ -1,5 +1,5 @@
 //! Whether a rule is accepted: one answer for a graph and for a draft laid over one.
-ghost use Rattle.std.specs.Prelude.{◌≡◌, false, MatchOption, bytes_eq};
+ghost use Rattle.std.specs.Prelude.{◌≡◌, Some, false, MatchOption, bytes_eq};
 ghost use Rattle.std.specs.Map.{lookup};
 ghost use Rattle.std.specs.Option.{option_copied};
 ghost use Rattle.tg_names.specs.Sets.{IsNamed};
@@ -108,6 +108,15 @@ pub(crate) fn holds<R: Rows>(rows: &R, x: Name, right: Right, y: Name) -> bool
     label_between(rows, x, y).has(right)
 }
 
+// The refusal of a rule for a name that is no vertex, compiled by itself for the same reason as the checks
+// below: what it makes of a name has other borders.
+#[inline(never)]
+fn unknown(name: Name) -> Result<(), Refusal>
+    ensures { result ≡ verdict (Some (Refusal.Unknown name)) }
+{
+    Err(Refusal::Unknown(name))
+}
+
 // The four checks are compiled by themselves, so that names stay whole where they are looked up.
 
 // The first refusal of a take.
@@ -126,13 +135,13 @@ fn check_take<R: Rows>(
         (refusal_of (graph_of (R.entries rows.now)) (Rule.Take x y z rights)) }
 {
     let Some(own) = row_of(rows, x, near.first) else {
-        return Err(Refusal::Unknown(x));
+        return unknown(x);
     };
     let Some(other) = row_of(rows, y, near.second) else {
-        return Err(Refusal::Unknown(y));
+        return unknown(y);
     };
     if !knows_near(rows, z, near.third) {
-        return Err(Refusal::Unknown(z));
+        return unknown(z);
     }
     if rights.is_empty() {
         return Err(Refusal::Empty);
@@ -159,13 +168,13 @@ fn check_grant<R: Rows>(
         (refusal_of (graph_of (R.entries rows.now)) (Rule.Grant x y z rights)) }
 {
     let Some(own) = row_of(rows, x, near.first) else {
-        return Err(Refusal::Unknown(x));
+        return unknown(x);
     };
     if !knows_near(rows, y, near.second) {
-        return Err(Refusal::Unknown(y));
+        return unknown(y);
     }
     if !knows_near(rows, z, near.third) {
-        return Err(Refusal::Unknown(z));
+        return unknown(z);
     }
     if rights.is_empty() {
         return Err(Refusal::Empty);
@@ -190,7 +199,7 @@ fn check_create<R: Rows>(
         (refusal_of (graph_of (R.entries rows.now)) (Rule.Create x n rights)) }
 {
     if !knows_near(rows, x, near.first) {
-        return Err(Refusal::Unknown(x));
+        return unknown(x);
     }
     if knows_near(rows, n, near.second) {
         return Err(Refusal::Taken(n));
@@ -212,10 +221,10 @@ fn check_remove<R: Rows>(
         (refusal_of (graph_of (R.entries rows.now)) (Rule.Remove x y rights)) }
 {
     if !knows_near(rows, x, near.first) {
-        return Err(Refusal::Unknown(x));
+        return unknown(x);
     }
     if !knows_near(rows, y, near.second) {
-        return Err(Refusal::Unknown(y));
+        return unknown(y);
     }
     if rights.is_empty() {
         return Err(Refusal::Empty);
