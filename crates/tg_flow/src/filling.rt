@@ -68,6 +68,8 @@ impl Network {
         while ways.has_met(x) {
             self.send(&ways, x);
             units += 1;
+            // Its memory is let go of first, so that there is that of one search at a time.
+            drop(ways);
             ways = self.search_to_end(false, x, y)?;
         }
         Ok(units)
@@ -90,7 +92,9 @@ impl Network {
         self.take_back_all();
         self.list()?;
         let kept = self.search_to_end(true, x, y)?;
-        if kept.has_met(x) {
+        let is_endless = kept.has_met(x);
+        drop(kept);
+        if is_endless {
             return Ok(None);
         }
         let units = self.send_all(x, y)?;
