@@ -148,16 +148,6 @@ fn an_unshared_copy_shares_no_row(rt: HostRuntime) -> Result<(), Fail> {
     Ok(())
 }
 
-// Where there is no edge, a remove is carried out, and the copy need not have a row of its own for that.
-#[test]
-fn a_remove_of_no_edge_leaves_the_row_shared(rt: HostRuntime) -> Result<(), Fail> {
-    let g = three(&rt, rt.alloc())?;
-    let mut copy = g.copy()?;
-    assert!(rt; copy.apply(&remove(&rt, b"a", b"c", b"r")) == Ok(()));
-    rows_have_owners(&rt, &copy, 2);
-    Ok(())
-}
-
 // Vertices that come after those whose edges lead to them, not in name order.
 const CREATED: [&[u8]; 3] = [b"z", b"x", b"y"];
 

@@ -195,10 +195,10 @@ impl Row {
         }
     }
 
-    /// Where the edge to y is, or where it would go. Mostly the numbers of names tell it, and names are
-    /// looked at where they do not. The name y may have this number among those that rows share.
+    // Where the edge to y is, or where it would go. Mostly the numbers of names tell it, and names are
+    // looked at where they do not. That of y may be known; it decides no answer.
     #[inline(always)]
-    pub fn place(&self, y: Name, likely: Option<usize>) -> Result<usize, usize>
+    fn place_near(&self, y: Name, likely: Option<usize>) -> Result<usize, usize>
         ensures found { IfOk result (IsPlaceOf self.now y) }
         ensures absent { IfErr result (IsGapFor self.now y) }
         ensures row { IsRow self.now }
@@ -207,6 +207,15 @@ impl Row {
             Some(place) => place,
             None => self.place_by_names(y),
         }
+    }
+
+    /// Where the edge to y is, or where it would go.
+    pub fn place(&self, y: Name) -> Result<usize, usize>
+        ensures found { IfOk result (IsPlaceOf self.now y) }
+        ensures absent { IfErr result (IsGapFor self.now y) }
+        ensures row { IsRow self.now }
+    {
+        self.place_near(y, None)
     }
 
     // Whether each target in front of the place is below y.
@@ -252,7 +261,7 @@ impl Row {
         if self.in_turn && self.is_gap(self.next, y) {
             Err(self.next)
         } else {
-            self.place(y, likely)
+            self.place_near(y, likely)
         }
     }
 
@@ -270,7 +279,7 @@ impl Row {
     fn label_by_place(&self, y: Name, likely: Option<usize>) -> Rights
         ensures { result ≡ label_in self.now y }
     {
-        match self.place(y, likely) {
+        match self.place_near(y, likely) {
             Ok(place) => self.label_at(place, y),
             Err(_place) => Rights::empty(),
         }
@@ -377,14 +386,17 @@ impl Row {
         }
     }
 
-    /// Takes rights out of the label of the edge to y, which is at the place.
-    pub fn take(&mut self, place: usize, y: Name, rights: Rights) -> Result<(), AllocError>
-        requires place { IsPlaceOf self.old y place }
-        requires named { IsNamed rights }
+    /// Takes rights out of the label of the edge to a vertex, whose name may have this number among those
+    /// that rows share.
+    pub fn take(&mut self, y: Name, rights: Rights, likely: Option<usize>) -> Result<(), AllocError>
+        requires { IsNamed rights }
         ensures taken { OnOk result (TakesAway self.old self.new y rights) }
         ensures err { OnErr result (self.new ≡ self.old) }
         ensures row { IsRow self.new }
     {
+        let Ok(place) = self.place_near(y, likely) else {
+            return Ok(());
+        };
         let left = Flags::difference(self.label_at(place, y), rights);
         if left.is_empty() {
             self.cut(place, y)?;

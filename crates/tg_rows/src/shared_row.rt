@@ -127,18 +127,15 @@ impl SharedRow {
     }
 
     /// Takes rights out of the label of the edge to a vertex, whose name may have this number among those
-    /// that rows share. Where there is no such edge, the row stays shared.
+    /// that rows share.
     pub fn take(&mut self, y: Name, rights: Rights, likely: Option<usize>) -> Result<(), AllocError>
         requires { IsNamed rights }
         ensures taken { OnOk result (TakesAway self.old self.new y rights) }
         ensures row { OnOk result (IsRow self.new) }
         ensures err { OnErr result (self.new ≡ self.old) }
     {
-        let Ok(place) = self.row.place(y, likely) else {
-            return Ok(());
-        };
         let row = Arc::make_mut(&mut self.row)?;
-        row.take(place, y, rights)?;
+        row.take(y, rights, likely)?;
         Ok(())
     }
 }
