@@ -165,12 +165,21 @@ impl Targets {
         Ok(number)
     }
 
-    // A number that the name may have: that of the hint, or else that among the shared names.
-    fn likely_number(&self, name: Name, hint: Hint) -> Option<usize> {
-        match (hint.number, &self.shared) {
-            (Some(number), _) if self.is_at(number, name) => Some(number),
-            (_, Some(names)) => names.find(name),
-            _ => None,
+    // A number that the name mostly has among the shared names. It decides no answer.
+    fn shared_number(&self, name: Name) -> Option<usize> {
+        self.shared.as_ref()?.find(name)
+    }
+
+    // A number of a name that is not that of a hint: that among the shared names, or else a new one.
+    #[inline(never)]
+    fn number_without_hint(&mut self, name: Name) -> Result<usize, AllocError>
+        ensures found { IfOk result
+            (λ number. slice_get (names_of self.new) number ≡ Some name) }
+        ensures kept { Extends (names_of self.old) (names_of self.new) }
+    {
+        match self.shared_number(name) {
+            Some(shared) if self.is_at(shared, name) => Ok(shared),
+            _ => self.push(name),
         }
     }
 
@@ -181,9 +190,9 @@ impl Targets {
         ensures kept { Extends (names_of self.old) (names_of self.new) }
     {
         self.take_names(hint)?;
-        match self.likely_number(name, hint) {
+        match hint.number {
             Some(number) if self.is_at(number, name) => Ok(number),
-            _ => self.push(name),
+            _ => self.number_without_hint(name),
         }
     }
 }
