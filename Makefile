@@ -12,6 +12,7 @@
 #                 before it for packagers
 # make uninstall  takes these four files away again
 # make bench      time and peak memory of each command on heavy inputs, of 1,024 and of 4,096 vertices
+# make memory     how much memory a cut asks for, counted and held against its bound: seconds
 # make races      races of 16 seats, each report compared with a small model's
 # make hostile    the program with bad files, outputs and words, and little memory; half a minute
 # make fuzz       the program on random texts for a minute, each answer compared with a small model's
@@ -40,7 +41,7 @@ LESS_OF_CLUSTER = $(foreach kind,groups secrets pods services events,--without '
 # 9.5 GB, and leaves processors idle.
 RT_JOBS ?= $(shell awk -v most=$$(nproc) '/^MemTotal/ { n = int($$2 / 5e6); print n < 1 ? 1 : n < most ? n : most }' /proc/meminfo)
 
-.PHONY: build demo examples pictures test bodies refusals man install uninstall bench races hostile fuzz
+.PHONY: build demo examples pictures test bodies refusals man install uninstall bench memory races hostile fuzz
 
 build:
 	@echo "Proving and building officer and the crates below it: about half an hour on four slow processors from nothing, seconds after that."
@@ -175,6 +176,9 @@ bench: build
 		python3 bench/cluster.py $$objects > crates/officer/out/cluster.json; \
 		bash -c 'time -p tools/from_rbac crates/officer/out/cluster.json | $(OFFICER) islands /dev/stdin > /dev/null'; \
 	done
+
+memory: build
+	@python3 checks/memory.py $(OFFICER)
 
 races: build
 	@python3 checks/races.py $(OFFICER)

@@ -81,12 +81,12 @@ def test_program(crate):
     return f"{TOP}/crates/{crate}/out/{crate}_tests"
 
 
-def refusing_library(folder):
-    """Builds refuse.c by the toolchain's own compiler, and returns the library's path."""
+def preloaded_library(source, folder):
+    """Builds a library that stands before the C library by the toolchain's own compiler: its path."""
     page = subprocess.run(["rt", "doc"], capture_output=True, text=True, check=True).stdout
     tools = f"{os.path.dirname(page.strip())}/toolchain/bin"
-    made, library = f"{folder}/refuse.o", f"{folder}/refuse.so"
-    source = f"{TOP}/checks/refuse.c"
+    made, library = f"{folder}/made.o", f"{folder}/made.so"
+    source = f"{TOP}/checks/{source}"
     subprocess.run([f"{tools}/clang", "-O1", "-fPIC", "-c", source, "-o", made], check=True)
     subprocess.run([f"{tools}/ld.lld", "-shared", made, "-o", library], check=True)
     return library
@@ -150,7 +150,7 @@ def main():
     programs = [(crate, test_program(crate)) for crate in crates]
     began, failed, requests = time.monotonic(), 0, 0
     with tempfile.TemporaryDirectory(prefix="refusals-") as folder:
-        library = refusing_library(folder)
+        library = preloaded_library("refuse.c", folder)
         tasks = [(c, p, t) for c, p in programs for t in tests_of(p) if asked.only in t]
         with concurrent.futures.ThreadPoolExecutor(os.cpu_count()) as pool:
             made = pool.map(lambda it: refuse_in_turn(library, it[1], it[2]), tasks)
