@@ -97,31 +97,36 @@ def run(library, argv):
     return series, ran.stdout.partition("\n")[0]
 
 
+def taken_by(library, program, path, case):
+    """How many bytes the cut took beyond words, text and graph, and the first line of the answer."""
+    *words, last = case.words(path)
+    asked, answer = run(library, [program, *words, last])
+    refused, _ = run(library, [program, *words, last.replace("v", "w")])
+    alike = os.path.commonprefix([asked, refused])
+    return max(asked[len(alike) :], default=0) - alike[-1], answer
+
+
 def failure_of(case, taken, answer):
     """What is wrong with a case, or nothing."""
     if answer != case.answer:
         return f"it says {answer}, not {case.answer}"
-    return f"more than {case.most()}" if taken > case.most() else ""
+    return "" if 0 < taken <= case.most() else "out of bounds"
 
 
 def main():
     if len(sys.argv) != 2:
         sys.exit(__doc__)
-    program = os.path.abspath(sys.argv[1])
-    count, failed = 0, 0
+    program, count, failed = os.path.abspath(sys.argv[1]), 0, 0
     with tempfile.TemporaryDirectory(prefix="memory-") as folder:
         library, path = preloaded_library("requests.c", folder), f"{folder}/graph"
         for case in cases():
             with open(path, "w", encoding="utf-8") as text:
                 text.write(case.text())
-            *words, last = case.words(path)
-            asked, answer = run(library, [program, *words, last])
-            refused, _ = run(library, [program, *words, last.replace("v", "w")])
-            parted = next(i for i, (it, other) in enumerate(zip(asked, refused)) if it != other)
-            taken = max(asked[parted:]) - asked[parted - 1]
+            taken, answer = taken_by(library, program, path, case)
             failure = failure_of(case, taken, answer)
-            said = f"{case.vertices} vertices, {len(case.edges)} edges, {taken} bytes of {case.most()}"
-            print(f"{case.title}: {said}" + (f": FAILED, {failure}" if failure else ""), flush=True)
+            size = f"{case.vertices} vertices, {len(case.edges)} edges"
+            said = f"{case.title}, {size}: {taken} bytes of {case.most()}"
+            print(said + (f": FAILED, {failure}" if failure else ""), flush=True)
             count, failed = count + 1, failed + bool(failure)
     print(f"{count} cases, {failed} failures")
     sys.exit(1 if failed else 0)

@@ -2,13 +2,7 @@
  * it counts the calls of malloc and realloc from 1, refuses those from REFUSE_FROM to REFUSE_TO,
  * and writes a byte to the descriptor REFUSE_TOLD for each that it refuses. */
 
-extern void *dlsym(void *library, const char *name);
-extern char *getenv(const char *name);
-extern long atol(const char *text);
-extern long write(int descriptor, const void *bytes, unsigned long count);
-
-/* The next library that has the name. */
-#define NEXT ((void *)-1l)
+#include "preloaded.h"
 
 static void *(*real_malloc)(unsigned long size);
 static void *(*real_realloc)(void *block, unsigned long size);

@@ -3,13 +3,7 @@
  * REQUESTS_TOLD, the block that was there before or 0, the one that is there now or 0, and how many
  * bytes were asked for. */
 
-extern void *dlsym(void *library, const char *name);
-extern char *getenv(const char *name);
-extern long atol(const char *text);
-extern long write(int descriptor, const void *bytes, unsigned long count);
-
-/* The next library that has the name. */
-#define NEXT ((void *)-1l)
+#include "preloaded.h"
 
 static void *(*real_malloc)(unsigned long size);
 static void *(*real_calloc)(unsigned long count, unsigned long size);
