@@ -7,7 +7,7 @@ use Rattle.std.proofs.Math.Seq.{get_or-append_seam}
 use Rattle.tg_names.specs.declared.right_sets.Right.{Right}
 use Rattle.tg_graph.specs.Limits.{most_vertices}
 use Rattle.tg_rows.specs.Rows.{Entries}
-use Rattle.tg_analysis.specs.Numbering.{AreCounted}
+use Rattle.tg_islands.specs.Numbering.{AreCounted}
 use Rattle.tg_analysis.specs.Holdings.{JoinsHoldings}
 use Rattle.tg_analysis.specs.Gathered.{Gathers}
 use Rattle.tg_analysis.specs.Tables.{most_workers, block_start, AreBlocks}

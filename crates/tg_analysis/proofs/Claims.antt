@@ -11,9 +11,9 @@ use Rattle.tg_names.specs.Sets.{member, nothing, bit_of, IsNamed}
 use Rattle.tg_names.specs.Names.{Name}
 use Rattle.tg_analysis.specs.declared.cases.Claimed.{Claimed}
 use Rattle.tg_analysis.specs.declared.held.Held.{Held}
-use Rattle.tg_analysis.specs.Numbering.{AreCounted, number_of}
+use Rattle.tg_islands.specs.Numbering.{AreCounted, number_of}
 use Rattle.tg_analysis.specs.Cases.{AreHeads, AreNumbersOf, IsClaim, IsClaimOf, IsClaimWithout, IsFirstInBoth, IsFirstWithout, IsLackOf, IsSaid, IsSoonest, IsSooner, IsWithout, JoinsUpTo, place_at, rights_under, sooner_of}
-use Rattle.tg_analysis.proofs.ByTarget.{behind-is, behind-keeps, behind-last}
+use Rattle.tg_islands.proofs.RowEnds.{behind-is, behind-keeps, behind-last}
 use Rattle.tg_analysis.proofs.Reached.{nothing-has}
 use Rattle.tg_analysis.proofs.NumberKeys.{apart}
 use Rattle.tg_analysis.proofs.CaseOrder.{same_right, bit_below, soonest-two, soonest-same}

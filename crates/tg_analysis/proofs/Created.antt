@@ -9,10 +9,10 @@ use Rattle.tg_names.specs.Names.{Name, same_name}
 use Rattle.tg_graph.specs.Graphs.{ProtectionGraph, has_vertex}
 use Rattle.tg_graph.specs.Rules.{after}
 use Rattle.tg_graph.specs.RuleLists.{AllAccepted}
-use Rattle.tg_analysis.specs.Sharing.{NoRepeat}
+use Rattle.tg_islands.specs.Sharing.{NoRepeat}
 use Rattle.tg_analysis.specs.SetDerivations.{created_by, CreatedAreNew}
-use Rattle.tg_analysis.proofs.NameTests.{same_refl, same_false, any_push}
-use Rattle.tg_analysis.proofs.Accepted.{create_facts}
+use Rattle.tg_islands.proofs.NameTests.{same_refl, same_false, any_push}
+use Rattle.tg_islands.proofs.Accepted.{create_facts}
 
 still_there : (g : ProtectionGraph) (rule : Rule) (v : Name) → IsTrue (has_vertex g v) → IsTrue (has_vertex (after g rule) v)
 unfolding after

@@ -6,12 +6,12 @@ use Rattle.tg_graph.specs.Limits.{most_vertices}
 use Rattle.tg_names.specs.Names.{Name}
 use Rattle.tg_graph.specs.Graphs.{ProtectionGraph, has_vertex, WellFormed}
 use Rattle.tg_graph.specs.RuleLists.{CanShare}
-use Rattle.tg_analysis.specs.Sharing.{IsChain, HeldInIsland}
+use Rattle.tg_islands.specs.Sharing.{IsChain, HeldInIsland}
 use Rattle.tg_analysis.specs.Derivations.{end_of, IsUnderway, IsCarried, IsPart, DerivationsAreShort}
 use Rattle.tg_analysis.specs.SetDerivations.{AddsPart}
 use Rattle.tg_analysis.specs.Searches.{IsWay}
-use Rattle.tg_analysis.proofs.Short.{short_enough}
-use Rattle.tg_analysis.proofs.NoOthers.{no_other}
+use Rattle.tg_islands.proofs.Short.{short_enough}
+use Rattle.tg_islands.proofs.NoOthers.{no_other}
 
 pub chain_end : (g : ProtectionGraph) (u : Name) (ws : List Name) (v : Name) → IsChain g u ws v → end_of u ws ≡ v
 chain_end g u [] v c = c.0

@@ -1,12 +1,12 @@
 -- The steps of a flood.
-use Rattle.std.proofs.Common.{◌≡◌, ℕ, ◌+◌, ◌<◌, ◌≤◌, true, false, List, [], ◌∷◌, ◌++◌, Option, Some, None, refl, sym, ap, subst, ◌∙◌, nat_eq, is_some, length, get_or, arith, true≢false, inl, inr, ◌⊎◌}
-use Rattle.std.specs.List.{list_any}
-use Rattle.std.proofs.lemmas.Bool.{cases_lt, eqb-true, eq-eqb, or_cases, or_left, or_right}
-use Rattle.std.proofs.lemmas.List.Folds.{list_any-append, list_any_at}
+use Rattle.std.proofs.Common.{◌≡◌, ℕ, ◌+◌, ◌<◌, ◌≤◌, true, List, [], ◌∷◌, ◌++◌, Option, Some, None, refl, sym, ap, subst, ◌∙◌, is_some, arith, true≢false, inl, inr, ◌⊎◌}
+use Rattle.std.proofs.lemmas.Bool.{cases_lt}
 use Rattle.tg_analysis.specs.declared.flooding.Flood.{Flood}
 use Rattle.tg_rows.specs.Rows.{Entries}
-use Rattle.tg_analysis.specs.Linked.{linked_end}
-use Rattle.tg_analysis.specs.Flooding.{number_at, IsOneOf, Meets, MeetsEnd, MeetsEnds}
+use Rattle.tg_islands.specs.Linked.{linked_end}
+use Rattle.tg_analysis.specs.Flooding.{number_at, Meets, MeetsEnd, MeetsEnds}
+use Rattle.tg_islands.specs.Positions.{IsOneOf}
+use Rattle.tg_islands.proofs.OneOf.{one_of-append, one_of-left, one_of-right, one_of-single, single-one_of}
 
 -- a number that was given stays
 abbrev pub Kept : Flood → Flood → Type 0
@@ -26,28 +26,6 @@ module _ (s t : Flood) (kept : Kept s t) (a : ℕ) where
       by : (o : Option ℕ) → number_at s a ≡ o → is_some o ≡ true → is_some (number_at t a) ≡ true
       by None p q = absurd (true≢false (sym q))
       by (Some m) p q = ap is_some (kept a m p)
-
-pub one_of-append : (a : ℕ) (xs ys : List ℕ) → IsOneOf a (xs ++ ys) → IsOneOf a xs ⊎ IsOneOf a ys
-one_of-append a xs ys h = or_cases (list_any (nat_eq a) xs) (list_any (nat_eq a) ys) (sym (list_any-append (nat_eq a) xs ys) ∙ h)
-
-pub one_of-left : (a : ℕ) (xs ys : List ℕ) → IsOneOf a xs → IsOneOf a (xs ++ ys)
-one_of-left a xs ys h = list_any-append (nat_eq a) xs ys ∙ or_left (list_any (nat_eq a) xs) (list_any (nat_eq a) ys) h
-
-pub one_of-right : (a : ℕ) (xs ys : List ℕ) → IsOneOf a ys → IsOneOf a (xs ++ ys)
-one_of-right a xs ys h = list_any-append (nat_eq a) xs ys ∙ or_right (list_any (nat_eq a) xs) (list_any (nat_eq a) ys) h
-
-pub one_of-single : (a b : ℕ) → IsOneOf a (b ∷ []) → a ≡ b
-one_of-single a b h = by (or_cases (nat_eq a b) false h)
-  where
-    by : (nat_eq a b ≡ true) ⊎ (false ≡ true) → a ≡ b
-    by (inl e) = eqb-true a b e
-    by (inr e) = absurd (true≢false (sym e))
-
-pub single-one_of : (a : ℕ) → IsOneOf a (a ∷ [])
-single-one_of a = or_left (nat_eq a a) false (eq-eqb a a refl)
-
-pub item-one_of : (xs : List ℕ) (i : ℕ) → i < length xs → IsOneOf (get_or xs i 0) xs
-item-one_of xs i h = list_any_at (nat_eq (get_or xs i 0)) xs i 0 h (eq-eqb (get_or xs i 0) (get_or xs i 0) refl)
 
 -- ---- positions met in turn
 pub meets-none : (s : Flood) → Meets [] s s

@@ -16,13 +16,14 @@ use Rattle.tg_graph.specs.Graphs.{WellFormed}
 use Rattle.tg_graph.specs.GraphOf.{graph_of}
 use Rattle.tg_rows.specs.Rows.{Entries, IsGraph, row_number}
 use Rattle.tg_graph.specs.RuleLists.{CanShare}
-use Rattle.tg_analysis.specs.Sharing.{HeldInIsland, SharedExactly}
-use Rattle.tg_analysis.specs.Numbering.{AreCounted, AreIslands}
+use Rattle.tg_islands.specs.Sharing.{HeldInIsland, SharedExactly}
+use Rattle.tg_islands.specs.Numbering.{AreCounted, AreIslands}
 use Rattle.tg_analysis.specs.Holdings.{is_marked, holds_over, JoinsHoldings}
 use Rattle.tg_analysis.specs.Gathered.{target_of, HasEdge, HasEdgeFrom, TakesEdges, Gathers}
 use Rattle.tg_analysis.specs.Tables.{table_cell, TellsWhether, IsPairTable}
 use Rattle.tg_graph.proofs.Positions.{at-position}
-use Rattle.tg_analysis.proofs.Places.{position-at, place_of, place-known, holds-place, place-holds}
+use Rattle.tg_islands.proofs.RowEnds.{IsThere}
+use Rattle.tg_islands.proofs.Places.{position-at, place_of, place-known, holds-place, place-holds}
 
 either : (a b : Bool) → (a || b) ≡ true → (a ≡ true) ⊎ (b ≡ true)
 either true b h = inl refl
@@ -107,13 +108,6 @@ module _ (es : Entries) (numbers : List ℕ) (right : Right) where
           by (inr l) = joins.held number b ∙ left (holds_over old number b) (holds_over other number b) ((g.held number b).1 (record { a = e.a; place = e.place; from = l; before = e.before; edge = e.edge }))
 
 -- ---- an edge that is there
-pub record IsThere (es : Entries) (right : Right) (a place b : ℕ) : Type 0 where
-  pub name : Name
-  pub label : Rights
-  pub read : slice_get (row_number es a) place ≡ Some (name, label)
-  pub held : member label right ≡ true
-  pub known : position (bytes_eq name) (keys_of es) ≡ Some b
-
 pub is_there : (es : Entries) (right : Right) (a place b : ℕ) → target_of es right a place ≡ Some b → IsThere es right a place b
 is_there es right a place b e = option_and_then_some (λ (edge : Name × Rights). cond (member edge.1 right) (position (bytes_eq edge.0) (keys_of es)) None) (slice_get (row_number es a) place) b e by
   where

@@ -12,9 +12,9 @@ use Rattle.tg_names.specs.Names.{Name}
 use Rattle.tg_graph.specs.Graphs.{WellFormed}
 use Rattle.tg_graph.specs.GraphOf.{graph_of}
 use Rattle.tg_rows.specs.Rows.{Entries, IsGraph, row_number, label_in}
-use Rattle.tg_analysis.specs.Sharing.{HeldInIsland}
+use Rattle.tg_islands.specs.Sharing.{HeldInIsland}
 use Rattle.tg_analysis.specs.Holders.{IsHeld, AreHeld}
-use Rattle.tg_analysis.proofs.Places.{place_of, holds-row}
+use Rattle.tg_islands.proofs.Places.{place_of, holds-row}
 
 -- the rights that no row in front of the position holds over y, and no others, are missing
 pub record LookedUpTo (es : Entries) (rights : Rights) (y : Name) (missing : Rights) (position : ℕ) : Type 0 where

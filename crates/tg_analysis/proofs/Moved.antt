@@ -9,10 +9,10 @@ use Rattle.tg_graph.specs.declared.rules.Rule.TheVariants.{Take, Grant, Create}
 use Rattle.tg_names.specs.Names.{helper_name, Name}
 use Rattle.tg_graph.specs.Graphs.{ProtectionGraph}
 use Rattle.tg_graph.specs.RuleLists.{after_all}
-use Rattle.tg_analysis.specs.Sharing.{IsChain}
-use Rattle.tg_analysis.specs.Moves.{only, take_and_grant, IsLeastHelper, IsMove, AreMoves}
+use Rattle.tg_islands.specs.Sharing.{IsChain}
+use Rattle.tg_islands.specs.Moves.{only, take_and_grant, IsLeastHelper, IsMove, AreMoves}
 use Rattle.tg_analysis.specs.Derivations.{direct_rule, helper_rules, end_of, IsSoFar, IsUnderway, GoesOn, IsCarried}
-use Rattle.tg_analysis.proofs.OverLinks.{after_both}
+use Rattle.tg_islands.proofs.OverLinks.{after_both}
 
 module _ (g now : ProtectionGraph) (right : Right) (y p q : Name) where
   pub move_direct : (rule : Rule) → direct_rule g right y p q ≡ Some rule → IsMove g now right y p q (rule ∷ [])

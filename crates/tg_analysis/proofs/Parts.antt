@@ -15,11 +15,11 @@ use Rattle.tg_names.specs.Letters.{all_rights}
 use Rattle.tg_names.specs.Names.{Name}
 use Rattle.tg_graph.specs.Graphs.{ProtectionGraph}
 use Rattle.tg_graph.specs.RuleLists.{CanShare, CanShareAll, after_all}
-use Rattle.tg_analysis.specs.Moves.{only}
+use Rattle.tg_islands.specs.Moves.{only}
 use Rattle.tg_analysis.specs.Derivations.{IsSoFar, IsPart, IsDerivation}
 use Rattle.tg_analysis.specs.SetDerivations.{rights_in, AreParts, IsDerivationOfAll, AddsPart, HasParts, OneRightAlone, DerivationsOfAllAreShort}
 use Rattle.tg_names.proofs.RightsWords.{one_itself}
-use Rattle.tg_analysis.proofs.OverLinks.{after_both}
+use Rattle.tg_islands.proofs.OverLinks.{after_both}
 use Rattle.tg_analysis.proofs.Derived.{part_short}
 
 -- one part more at the end

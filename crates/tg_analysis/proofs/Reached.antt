@@ -1,12 +1,10 @@
 -- Rights that are joined into sets, by island and by target, and what they say of sharing.
-use Rattle.std.proofs.Common.{◌≡◌, ℕ, ◌<◌, ◌≤◌, ◌+◌, ◌^◌, ◌↔◌, Bool, true, false, ◌&&◌, List, [], replicate, refl, sym, ap, subst, ◌∙◌, nat_eq, bytes_eq, length, slice_get, get_or, Some, None, arith, lit<, true≢false, inl, inr, ◌⊎◌, IsTrue, IfSome}
+use Rattle.std.proofs.Common.{◌≡◌, ℕ, ◌<◌, ◌≤◌, ◌+◌, ◌^◌, ◌↔◌, Bool, true, false, ◌&&◌, List, replicate, refl, sym, ap, subst, ◌∙◌, nat_eq, bytes_eq, length, slice_get, get_or, Some, None, arith, lit<, true≢false, inl, inr, ◌⊎◌, IsTrue}
 use Rattle.std.specs.List.{list_any}
 use Rattle.std.specs.Map.{keys_of}
 use Rattle.std.proofs.lemmas.Bool.{cases_lt, eq-eqb, eqb-true, and_parts, or_cases, or_left, or_right}
 use Rattle.std.proofs.lemmas.List.{get_or-replicate, get_or_past, length-replicate}
-use Rattle.std.proofs.lemmas.Map.Entries.{length-keys_of, lookup_from_place}
 use Rattle.std.proofs.lemmas.Option.{slice_get-get_or, slice_get_within, get_or_from_slice_get}
-use Rattle.std.specs.Cmp.Lexicographic.{nat_list_eq_equiv}
 use Rattle.tg_names.specs.declared.right_sets.Right.{Right}
 use Rattle.tg_names.specs.declared.right_sets.Rights.{Rights}
 use Rattle.tg_graph.specs.declared.ends.Wanted.TheVariants.{All}
@@ -15,19 +13,18 @@ use Rattle.tg_graph.specs.Ends.{end_of}
 use Rattle.tg_names.specs.Names.{Name}
 use Rattle.tg_graph.specs.Graphs.{WellFormed}
 use Rattle.tg_graph.specs.GraphOf.{graph_of}
-use Rattle.tg_rows.specs.Rows.{Entries, IsGraph, IsRow, IsLabel, row_number, label_in}
+use Rattle.tg_rows.specs.Rows.{Entries, IsGraph, row_number, label_in}
 use Rattle.tg_graph.specs.RuleLists.{CanShare, CanShareAll}
-use Rattle.tg_rows.proofs.Places.{distinct_from_up}
 use Rattle.tg_names.proofs.Sets.{member-nothing}
-use Rattle.tg_analysis.specs.Sharing.{SharedExactly, TogetherAsAlone, HeldInIsland}
-use Rattle.tg_analysis.specs.Numbering.{AreCounted, AreIslands}
+use Rattle.tg_islands.specs.Sharing.{SharedExactly, TogetherAsAlone, HeldInIsland}
+use Rattle.tg_islands.specs.Numbering.{AreCounted, AreIslands}
 use Rattle.tg_analysis.specs.Gathered.{target_of, HasEdgeFrom}
 use Rattle.tg_analysis.specs.ByTarget.{HoldsIn}
 use Rattle.tg_analysis.specs.Reaching.{TellWho, TellReach, set_at, AreNamedSets, GainsRights, HoldsBefore, HoldUpTo, HasEach, MarkUpTo, GainsLabel, GainLabels, ReachUpTo}
-use Rattle.tg_analysis.proofs.Places.{place_of, place-known, row_of}
-use Rattle.tg_analysis.proofs.Linked.{row_past}
+use Rattle.tg_islands.proofs.Places.{place_of, place-known}
 use Rattle.tg_analysis.proofs.Gathered.{is_there, edge-exact}
-use Rattle.tg_analysis.proofs.ByTarget.{some-pair, end-there, end-leads, is_read, target-within, scan-exact}
+use Rattle.tg_analysis.proofs.ByTarget.{end-leads, target-within, scan-exact}
+use Rattle.tg_islands.proofs.RowEnds.{some-pair, end-there}
 
 -- the empty set has no member
 pub nothing-has : (right : Right) → IsTrue (member nothing right) → ⊥
@@ -116,24 +113,6 @@ module _ (es : Entries) (numbers : List ℕ) (y : Name) where
         back number right (inr h) =
             let same : number ≡ own = (let p = h.0 in cc) in
             gets own rights old new gain number right same (here right ∙ h.1)
-
--- ---- labels of edges
-module _ (es : Entries) (ok : IsGraph es) where
-  -- no label has an unnamed bit
-  pub label-named : (a place b : ℕ) (label : Rights) → end_of es a place All ≡ Some (b, label) → IsNamed label
-  label-named a place b label e =
-      let t = is_read es a place b label e in
-      let within = slice_get_within (row_number es a) place (t.name, label) t.read in
-      named t.name t.read (cases_lt a (length (keys_of es))) within
-    where
-      named : (name : Name) → slice_get (row_number es a) place ≡ Some (name, label) → (a < length (keys_of es)) ⊎ (length (keys_of es) ≤ a) → place < length (row_number es a) → IsNamed label
-      named name read (inr past) within = absurd (let none : length (row_number es a) ≡ 0 = ap length (row_past es a (omega (arith, length-keys_of es))) in omega arith)
-      named name read (inl low) within =
-          let u : Name = get_or (keys_of es) a [] in
-          let r = row_of es ok a u (slice_get-get_or (keys_of es) a [] low) in
-          let row : IsRow (row_number es a) = subst IsRow (sym r.number) r.sorted in
-          let found = lookup_from_place nat_list_eq_equiv (row_number es a) place name label (distinct_from_up (row_number es a) row.sorted) read in
-          let labelled : IsLabel label = subst (λ o. IfSome o IsLabel) found (row.labelled name) in labelled.named
 
 module _ (es : Entries) (a place : ℕ) (old new : List Rights) where
   pub label-none : AreNamedSets old → end_of es a place All ≡ None → new ≡ old → GainsLabel es a place old new

@@ -1,23 +1,21 @@
 -- One round of a search: the neighbours of one vertex are met.
-use Rattle.std.proofs.Common.{◌≡◌, ℕ, ◌+◌, ◌<◌, ◌≤◌, Bool, true, false, cond, ◌⊎◌, inl, inr, List, [], ◌∷◌, ◌++◌, length, take, Some, None, get_or, slice_get, nat_eq, nat_lt, refl, sym, ap, ◌∙◌, subst, IsTrue, arith, bytes_eq}
-use Rattle.std.proofs.lemmas.Bool.{true≢false, both_ways, or_cases, or_left, or_right, eqb-true, eq-eqb, ltb-false}
+use Rattle.std.proofs.Common.{◌≡◌, ℕ, ◌+◌, ◌<◌, ◌≤◌, Bool, true, false, ◌⊎◌, inl, inr, List, [], ◌∷◌, ◌++◌, length, take, Some, get_or, slice_get, nat_eq, sym, ap, ◌∙◌, subst, IsTrue, bytes_eq}
+use Rattle.std.proofs.lemmas.Bool.{true≢false, or_cases, or_left, or_right, eqb-true, eq-eqb}
 use Rattle.std.proofs.lemmas.List.{take_more, take_all}
 use Rattle.std.proofs.lemmas.List.Folds.{list_any-append, list_any_at}
-use Rattle.std.proofs.lemmas.List.Sums.{fails_before_first}
 use Rattle.std.proofs.lemmas.List.Sorted.{list_any-IsPermutation}
-use Rattle.std.proofs.lemmas.Option.{slice_get_within, get_or_from_slice_get}
-use Rattle.std.specs.List.{list_any, position, position_or_len}
+use Rattle.std.specs.List.{list_any, position}
 use Rattle.std.specs.List.Sorted.{IsPermutation}
 use Rattle.std.specs.Map.{keys_of}
 use Rattle.tg_names.specs.Names.{Name, same_name}
 use Rattle.tg_graph.specs.Graphs.{ProtectionGraph, WellFormed}
 use Rattle.tg_rows.proofs.Rows.{same_bytes}
-use Rattle.tg_analysis.specs.Sharing.{linked}
-use Rattle.tg_analysis.specs.Linked.{NeighbourLists, neighbours, AreLinks}
+use Rattle.tg_islands.specs.Sharing.{linked}
+use Rattle.tg_islands.specs.Linked.{NeighbourLists, neighbours, AreLinks}
 use Rattle.tg_analysis.specs.Searches.{Visits, is_among, with_met, IsSearch, IsInOrder, GoesRound, AddsUnmet, AreNear, AreUnmetAt, AreUnmet, Meets}
-use Rattle.tg_analysis.proofs.NameTests.{same_refl}
+use Rattle.tg_islands.proofs.NameTests.{same_refl}
 use Rattle.tg_graph.proofs.Positions.{at-position}
-use Rattle.tg_analysis.proofs.Places.{place_of}
+use Rattle.tg_islands.proofs.Places.{place_of}
 use Rattle.tg_analysis.proofs.Searched.{visit-key, key-visit, grows-then, grows-met, is-met, search-met, order-met}
 use Rattle.tg_analysis.proofs.Underway.{linked_ends}
 
@@ -30,17 +28,6 @@ any-cases t xs x h = elim (or_cases (list_any t xs) (list_any t (x ∷ [])) (sym
 -- ---- the neighbours
 pub near-position : (g : ProtectionGraph) (links : NeighbourLists) (u : Name) (at : ℕ) → AreLinks g links → position (bytes_eq u) g.vertices ≡ Some at → AreNear g u (neighbours links at)
 near-position g links u at are here = λ b v there. are.exact at b u v (at-position g.vertices u at here) there
-
-pub position-none : (vs : List Name) (v : Name) → is_among v vs → position (bytes_eq v) vs ≡ None → ⊥
-position-none vs v there none = go (nat_lt (position_or_len (bytes_eq v) vs) (length vs)) refl none
-  where
-    go : (b : Bool) → nat_lt (position_or_len (bytes_eq v) vs) (length vs) ≡ b → cond b (Some (position_or_len (bytes_eq v) vs)) None ≡ None → ⊥
-    go true e h = cc
-    go false e h =
-        let at = place_of vs v there in
-        let past : length vs ≤ position_or_len (bytes_eq v) vs = ltb-false (position_or_len (bytes_eq v) vs) (length vs) e in
-        let lt : at.0 < position_or_len (bytes_eq v) vs = omega (arith, past, slice_get_within vs at.0 v at.1) in
-        both_ways (same_name v (get_or vs at.0 v)) (fails_before_first (bytes_eq v) vs at.0 v lt) (ap (same_name v) (get_or_from_slice_get vs at.0 v v at.1) ∙ same_refl v)
 
 -- ---- those that were not met
 pub unmet-push : (vertices : List Name) (met : Visits) (position : ℕ) (names : List Name) (name : Name) → slice_get vertices position ≡ Some name → AddsUnmet vertices met position names (names ++ name ∷ [])

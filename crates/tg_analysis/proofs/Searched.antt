@@ -10,14 +10,14 @@ use Rattle.tg_names.specs.declared.right_sets.Right.{Right}
 use Rattle.tg_names.specs.Names.{Name, same_name}
 use Rattle.tg_graph.specs.Graphs.{ProtectionGraph, has_vertex, WellFormed}
 use Rattle.tg_rows.proofs.Rows.{same_bytes}
-use Rattle.tg_analysis.specs.Sharing.{linked, HeldInIsland}
+use Rattle.tg_islands.specs.Sharing.{linked, HeldInIsland}
 use Rattle.tg_analysis.specs.declared.chains.Search.{Search}
-use Rattle.tg_analysis.specs.Linked.{AreLinks}
+use Rattle.tg_islands.specs.Linked.{AreLinks}
 use Rattle.tg_analysis.specs.Searches.{Visits, is_among, with_met, IsMetBy, IsSearch, HasGoneRound, HasNoHolder, IsSearched, IsMetUpTo, IsInOrder, Grows, GoesRound, IsSearching, SearchesOn}
-use Rattle.tg_analysis.proofs.NameTests.{same_refl}
-use Rattle.tg_analysis.proofs.Places.{place_of, place-known}
-use Rattle.tg_analysis.proofs.Counts.{Distinct, distinct_le}
-use Rattle.tg_analysis.proofs.Floods.{flood_has_island}
+use Rattle.tg_islands.proofs.NameTests.{same_refl}
+use Rattle.tg_islands.proofs.Places.{place_of, place-known}
+use Rattle.tg_islands.proofs.Counts.{Distinct, distinct_le}
+use Rattle.tg_islands.proofs.Floods.{flood_has_island}
 use Rattle.tg_analysis.proofs.Underway.{linked_ends}
 
 -- ---- places in a list

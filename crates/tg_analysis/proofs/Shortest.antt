@@ -6,8 +6,8 @@ use Rattle.std.specs.Map.{keys_of}
 use Rattle.tg_names.specs.declared.right_sets.Right.{Right}
 use Rattle.tg_names.specs.Names.{Name}
 use Rattle.tg_graph.specs.Graphs.{ProtectionGraph}
-use Rattle.tg_analysis.specs.Sharing.{IsChain}
-use Rattle.tg_analysis.specs.Moves.{IsShortest}
+use Rattle.tg_islands.specs.Sharing.{IsChain}
+use Rattle.tg_islands.specs.Moves.{IsShortest}
 use Rattle.tg_analysis.specs.Searches.{Visits, GoesBack, IsSearch, IsSearched, IsMetUpTo, IsInOrder}
 use Rattle.tg_analysis.proofs.Searched.{key-visit}
 use Rattle.tg_analysis.proofs.Steps.{some_pair, step_back}

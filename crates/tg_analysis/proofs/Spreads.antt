@@ -20,15 +20,18 @@ use Rattle.tg_rows.specs.Rows.{Entries, IsGraph, row_number, label_in}
 use Rattle.tg_analysis.specs.declared.flooding.Flood.{Flood}
 use Rattle.tg_analysis.specs.declared.spreading.Asked.{Asked}
 use Rattle.tg_analysis.specs.declared.spreading.Spread.{Spread}
-use Rattle.tg_analysis.specs.Sharing.{linked, InOneIsland, HeldInIsland}
-use Rattle.tg_analysis.specs.Linked.{NeighbourLists, neighbours, is_near, linked_end, AddsNeighbour}
-use Rattle.tg_analysis.specs.Flooding.{number_in, number_at, work_left, IsOneOf, Meets}
+use Rattle.tg_islands.specs.Sharing.{linked, InOneIsland, HeldInIsland}
+use Rattle.tg_islands.specs.Linked.{NeighbourLists, neighbours, is_near, linked_end, AddsNeighbour}
+use Rattle.tg_analysis.specs.Flooding.{number_at, work_left, Meets}
+use Rattle.tg_islands.specs.Numbering.{number_in}
+use Rattle.tg_islands.specs.Positions.{IsOneOf}
 use Rattle.tg_analysis.specs.Spreading.{IsMet, HoldsNone, IsMissing, BeginsAt, FollowsOn, ReadsEdge, ReadsUpTo, Reads, IsSpread, HasRead, IsAtRest, RunsOut}
-use Rattle.tg_analysis.proofs.Places.{position-at, place_of, place-known, holds-row}
-use Rattle.tg_analysis.proofs.OneIsland.{linked_sym, island_refl, island_link, island_trans}
-use Rattle.tg_analysis.proofs.Linked.{edge-linked, linked-edge, row_there, end_within, place_within}
-use Rattle.tg_analysis.proofs.Floods.{flood_has_island}
-use Rattle.tg_analysis.proofs.FloodSteps.{some_kept, one_of-append, one_of-left, one_of-right, one_of-single, single-one_of, TakesLast}
+use Rattle.tg_islands.proofs.Places.{position-at, place_of, place-known, holds-row}
+use Rattle.tg_islands.proofs.OneIsland.{linked_sym, island_refl, island_link, island_trans}
+use Rattle.tg_islands.proofs.Linked.{edge-linked, linked-edge, row_there, end_within, place_within}
+use Rattle.tg_islands.proofs.Floods.{flood_has_island}
+use Rattle.tg_analysis.proofs.FloodSteps.{some_kept, TakesLast}
+use Rattle.tg_islands.proofs.OneOf.{one_of-append, one_of-left, one_of-right, one_of-single, single-one_of}
 use Rattle.tg_analysis.proofs.Underway.{linked_ends}
 
 none_of : {A : Type 0} (a : ℕ) → IsOneOf a [] → A

@@ -13,12 +13,12 @@ use Rattle.tg_graph.specs.Graphs.{ProtectionGraph, has_vertex, WellFormed}
 use Rattle.tg_graph.specs.RuleLists.{after_all}
 use Rattle.tg_names.proofs.Digits.{name-decimal}
 use Rattle.tg_rows.proofs.Rows.{same_bytes}
-use Rattle.tg_analysis.specs.Sharing.{linked}
-use Rattle.tg_analysis.specs.Moves.{only, IsLeastHelper, IsMove}
-use Rattle.tg_analysis.specs.Derivations.{Extends, IsUnderway, TakesNothing, GoesOn, direct_rule, helper_rules}
-use Rattle.tg_analysis.proofs.NameTests.{same_refl}
-use Rattle.tg_analysis.proofs.Helpers.{helper_name-injective}
-use Rattle.tg_analysis.proofs.OverLinks.{Keeps, keeps, Known, stays, Link, takes, granted, grants, taken, link_of, Gives, extends_then, after_both, move_take, move_granted, move_helped}
+use Rattle.tg_islands.specs.Sharing.{linked}
+use Rattle.tg_islands.specs.Moves.{only, IsLeastHelper, IsMove, Extends}
+use Rattle.tg_analysis.specs.Derivations.{IsUnderway, TakesNothing, GoesOn, direct_rule, helper_rules}
+use Rattle.tg_islands.proofs.NameTests.{same_refl}
+use Rattle.tg_islands.proofs.Helpers.{helper_name-injective}
+use Rattle.tg_islands.proofs.OverLinks.{Keeps, keeps, Known, stays, Link, takes, granted, grants, taken, link_of, Gives, extends_then, after_both, move_take, move_granted, move_helped}
 
 abbrev AreHelpersBelow : ℕ → List Name → Type 0
 AreHelpersBelow next made = (v : Name) → IsTrue (list_any (same_name v) made) → (k : ℕ) × (k < next) × (v ≡ helper_name k)

@@ -8,10 +8,10 @@ use Rattle.tg_names.specs.declared.right_sets.Right.{Right}
 use Rattle.tg_names.specs.Names.{Name, same_name}
 use Rattle.tg_graph.specs.Graphs.{ProtectionGraph, has_vertex}
 use Rattle.tg_rows.proofs.Rows.{same_bytes}
-use Rattle.tg_analysis.specs.Sharing.{linked, IsChain, NoRepeat}
+use Rattle.tg_islands.specs.Sharing.{linked, IsChain, NoRepeat}
 use Rattle.tg_analysis.specs.Searches.{Visits, is_among, back_of, GoesBack, IsWayBack, IsBackwards, IsSearch, IsSearched, IsInOrder, IsWay}
-use Rattle.tg_analysis.proofs.OneIsland.{linked_sym}
-use Rattle.tg_analysis.proofs.Places.{position-at, place-known}
+use Rattle.tg_islands.proofs.OneIsland.{linked_sym}
+use Rattle.tg_islands.proofs.Places.{position-at, place-known}
 use Rattle.tg_analysis.proofs.Searched.{visit-key, key-visit}
 use Rattle.tg_analysis.proofs.Steps.{some_pair, before_visit, back_suc, StepBack, step_back}
 use Rattle.tg_analysis.proofs.Shortest.{shortest}

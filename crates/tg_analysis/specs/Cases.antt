@@ -17,7 +17,7 @@ use Rattle.tg_analysis.specs.declared.cases.Spot.{Spot}
 use Rattle.tg_analysis.specs.declared.by_target.HeldEdge.{HeldEdge}
 use Rattle.tg_analysis.specs.declared.held.Held.{Held}
 use Rattle.tg_analysis.specs.declared.case_index.Beyond.{Beyond}
-use Rattle.tg_analysis.specs.Numbering.{AreIslands, number_of}
+use Rattle.tg_islands.specs.Numbering.{AreIslands, number_of}
 use Rattle.tg_analysis.specs.ByTarget.{Listed, AreListed, Leads}
 
 -- the first comes sooner: by right in the order of the letters, which is that of their bits, then by place

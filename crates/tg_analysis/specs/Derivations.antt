@@ -9,8 +9,8 @@ use Rattle.tg_names.specs.Names.{helper_name, Name, same_name}
 use Rattle.tg_graph.specs.Limits.{most_vertices}
 use Rattle.tg_graph.specs.Graphs.{ProtectionGraph, has_vertex}
 use Rattle.tg_graph.specs.RuleLists.{AllAccepted, after_all}
-use Rattle.tg_analysis.specs.Sharing.{IsChain, NoRepeat}
-use Rattle.tg_analysis.specs.Moves.{only, take_and_grant, IsMove, AreMoves, IsShortest}
+use Rattle.tg_islands.specs.Sharing.{IsChain, NoRepeat}
+use Rattle.tg_islands.specs.Moves.{only, take_and_grant, Extends, IsMove, AreMoves, IsShortest}
 
 -- the one rule by which p gets q's right over y, if p has take over q, or q has grant over p
 abbrev pub direct_rule : ProtectionGraph → Right → Name → Name → Name → Option Rule
@@ -30,12 +30,6 @@ helper_rules g right y p q helper =
     ∷ Grant q helper y (only right)
     ∷ Take p helper y (only right)
     ∷ []
-
--- rules that are accepted, take nothing away, and make these vertices
-pub record Extends (g : ProtectionGraph) (rules : List Rule) (made : List Name) : Type 0 where
-  pub accepted : AllAccepted g rules
-  pub vertices : (after_all g rules).vertices ≡ g.vertices ++ made
-  pub triples : (u : Name) (right : Right) (v : Name) → IsTrue (g.holds u right v) → IsTrue ((after_all g rules).holds u right v)
 
 -- the rules so far take nothing away; each helper that they make has a number below `next`, and the names of these numbers are in use
 pub record IsSoFar (g : ProtectionGraph) (rules : List Rule) (next : ℕ) : Type 0 where

@@ -1,20 +1,13 @@
 -- A flood along links, which gives a number to each position that it meets.
-use Rattle.std.specs.Prelude.{◌≡◌, ℕ, ◌<◌, ◌+◌, true, not, List, [], ◌∷◌, length, nat_eq, slice_index_or, count_by, Option, Some, None, is_some, ◌⊎◌}
-use Rattle.std.specs.List.{list_any}
+use Rattle.std.specs.Prelude.{◌≡◌, ℕ, ◌<◌, ◌+◌, true, not, List, [], ◌∷◌, length, count_by, Option, Some, None, is_some, ◌⊎◌}
 use Rattle.tg_analysis.specs.declared.flooding.Flood.{Flood}
 use Rattle.tg_rows.specs.Rows.{Entries}
-use Rattle.tg_analysis.specs.Linked.{linked_end}
-
--- the number at a position, if it has one
-abbrev pub number_in : List (Option ℕ) → ℕ → Option ℕ
-number_in numbers a = slice_index_or numbers a None
+use Rattle.tg_islands.specs.Linked.{linked_end}
+use Rattle.tg_islands.specs.Numbering.{number_in}
+use Rattle.tg_islands.specs.Positions.{IsOneOf}
 
 abbrev pub number_at : Flood → ℕ → Option ℕ
 number_at flood a = number_in flood.numbers.items a
-
--- the position is one of the list
-abbrev pub IsOneOf : ℕ → List ℕ → Type 0
-IsOneOf a positions = list_any (nat_eq a) positions ≡ true
 
 -- how many positions have no number, or have one and wait
 abbrev pub work_left : Flood → ℕ

@@ -5,7 +5,7 @@ use Rattle.std.specs.Option.{option_and_then}
 use Rattle.tg_names.specs.declared.right_sets.Right.{Right}
 use Rattle.tg_names.specs.Sets.{member}
 use Rattle.tg_rows.specs.Rows.{Entries, row_number}
-use Rattle.tg_analysis.specs.Numbering.{AreCounted}
+use Rattle.tg_islands.specs.Numbering.{AreCounted}
 use Rattle.tg_analysis.specs.Holdings.{holds_over}
 
 -- the position of the target of an edge, if its label has the right

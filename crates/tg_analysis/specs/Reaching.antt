@@ -8,9 +8,9 @@ use Rattle.tg_names.specs.Names.{Name}
 use Rattle.tg_graph.specs.Graphs.{ProtectionGraph, has_vertex}
 use Rattle.tg_rows.specs.Rows.{Entries, row_number, label_in}
 use Rattle.tg_graph.specs.RuleLists.{CanShare, CanShareAll}
-use Rattle.tg_analysis.specs.declared.questions.AskFault.{AskFault}
-use Rattle.tg_analysis.specs.declared.questions.AskFault.TheVariants.{Unknown}
-use Rattle.tg_analysis.specs.Numbering.{AreCounted}
+use Rattle.tg_islands.specs.declared.questions.AskFault.{AskFault}
+use Rattle.tg_islands.specs.declared.questions.AskFault.TheVariants.{Unknown}
+use Rattle.tg_islands.specs.Numbering.{AreCounted}
 use Rattle.tg_analysis.specs.Gathered.{target_of, HasEdgeFrom}
 
 -- the fault of a question about one name: it is no vertex

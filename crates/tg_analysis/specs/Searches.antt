@@ -7,9 +7,9 @@ use Rattle.tg_names.specs.declared.right_sets.Right.{Right}
 use Rattle.tg_names.specs.Names.{Name, same_name}
 use Rattle.tg_graph.specs.Graphs.{ProtectionGraph, has_vertex}
 use Rattle.tg_analysis.specs.declared.chains.Search.{Search}
-use Rattle.tg_analysis.specs.Sharing.{linked, IsChain, NoRepeat}
-use Rattle.tg_analysis.specs.Linked.{AreLinks}
-use Rattle.tg_analysis.specs.Moves.{IsShortest}
+use Rattle.tg_islands.specs.Sharing.{linked, IsChain, NoRepeat}
+use Rattle.tg_islands.specs.Linked.{AreLinks}
+use Rattle.tg_islands.specs.Moves.{IsShortest}
 
 -- the vertices in the order in which they were met, each with the place of the one by which it was met
 abbrev pub Visits : Type 0

@@ -11,8 +11,8 @@ use Rattle.tg_graph.specs.Limits.{most_vertices}
 use Rattle.tg_names.specs.Names.{Name, same_name}
 use Rattle.tg_graph.specs.Graphs.{ProtectionGraph, has_vertex}
 use Rattle.tg_graph.specs.RuleLists.{AllAccepted, after_all}
-use Rattle.tg_analysis.specs.Sharing.{NoRepeat}
-use Rattle.tg_analysis.specs.Moves.{only}
+use Rattle.tg_islands.specs.Sharing.{NoRepeat}
+use Rattle.tg_islands.specs.Moves.{only}
 use Rattle.tg_analysis.specs.Derivations.{IsSoFar, IsUnderway, TakesNothing, IsPart, IsDerivation}
 
 -- the rights of the set, in the order of their letters

@@ -11,9 +11,10 @@ use Rattle.tg_rows.specs.Rows.{Entries, row_number}
 use Rattle.tg_analysis.specs.declared.flooding.Flood.{Flood}
 use Rattle.tg_analysis.specs.declared.spreading.Asked.{Asked}
 use Rattle.tg_analysis.specs.declared.spreading.Spread.{Spread}
-use Rattle.tg_analysis.specs.Sharing.{InOneIsland, HeldInIsland}
-use Rattle.tg_analysis.specs.Linked.{neighbours, is_near, linked_end, AddsNeighbour}
-use Rattle.tg_analysis.specs.Flooding.{number_at, work_left, IsOneOf, Meets, MeetsEnds}
+use Rattle.tg_islands.specs.Sharing.{InOneIsland, HeldInIsland}
+use Rattle.tg_islands.specs.Linked.{neighbours, is_near, linked_end, AddsNeighbour}
+use Rattle.tg_analysis.specs.Flooding.{number_at, work_left, Meets, MeetsEnds}
+use Rattle.tg_islands.specs.Positions.{IsOneOf}
 
 abbrev pub IsMet : Spread → ℕ → Type 0
 IsMet spread a = is_some (number_at spread.flood a) ≡ true

@@ -2,13 +2,13 @@
 ghost use Rattle.std.specs.Prelude.{◌≡◌, ◌↔◌, false, None, IsTrue, IfOk, IfErr, OnOk};
 ghost use Rattle.tg_graph.specs.GraphOf.{graph_of};
 ghost use Rattle.tg_graph.specs.RuleLists.{CanShare, CanShareAll};
-ghost use Rattle.tg_analysis.specs.Questions.{question_fault, IsDueFault};
+ghost use Rattle.tg_islands.specs.Questions.{question_fault, IsDueFault};
 
 use crate::holders::named;
-use crate::questions::AskFault;
 use crate::spreading::{Asked, island_holds};
 use std::alloc::Global;
 use tg_graph::{Graph, Name, Right, Rights};
+use tg_islands::AskFault;
 
 /// Whether some one list of rules, each accepted in its turn, gives x every right of the set over
 /// y. With the empty set it is always so.

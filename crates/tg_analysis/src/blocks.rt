@@ -7,11 +7,11 @@ ghost use Rattle.tg_analysis.specs.Tables.{most_workers, block_start, AreBlocks}
 use crate::gates::Gate;
 use crate::gathering::gather;
 use crate::holdings::Holdings;
-use crate::numbering::Islands;
 use std::alloc::{AllocError, Global};
 use std::thread;
 use std::thread::Threads;
 use tg_graph::{Graph, Right};
+use tg_islands::Islands;
 
 // Where the rows of a block begin.
 #[tactic(auto, using(crate::proofs::Blocked::product_fits))]

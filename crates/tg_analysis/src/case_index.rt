@@ -5,7 +5,7 @@ ghost use Rattle.tg_graph.specs.GraphOf.{graph_of};
 ghost use Rattle.tg_graph.specs.RuleLists.{CanShare};
 ghost use Rattle.tg_analysis.specs.declared.cases.Spot.{Spot};
 ghost use Rattle.tg_analysis.specs.declared.held.Held.{Held};
-ghost use Rattle.tg_analysis.specs.Numbering.{AreIslands};
+ghost use Rattle.tg_islands.specs.Numbering.{AreIslands};
 ghost use Rattle.tg_analysis.specs.ByTarget.{AreChained};
 ghost use Rattle.tg_analysis.specs.Cases.{AreHeldBy, AreHeldOver, AreMembersFrom, AreNumbersAt, AreNumbersOf, ArePlaces, AreVertices, CannotShare, FindsFirst, HasLooked, StandsAt, StandsUnmarked, is_marked};
 
@@ -14,12 +14,12 @@ use crate::cases::{Case, Spot, earlier};
 use crate::edge_counts::edge_count;
 use crate::heads::Heads;
 use crate::held::{Held, HeldOver, soonest, soonest_without};
+use crate::laws;
 use crate::members::{Members, is_marked};
-use crate::numbering::Islands;
-use crate::{joining, laws};
 use std::alloc::{AllocError, Global};
 use std::marker::Model;
 use tg_graph::{Graph, Name, Rights};
+use tg_islands::Islands;
 
 // The name at a place.
 fn name_of(names: &[Name], place: usize) -> Option<Name>
@@ -201,7 +201,7 @@ fn held_over_each(
 ///
 /// It takes some 80 bytes a vertex and, for each island that holds a right over a vertex, 16. While it is made
 /// it takes 16 bytes an edge besides. What a call takes goes by the places that it is given, by the islands
-/// that hold rights over the ys, and by a few bytes for each island.
+/// that hold rights over the ys, and by 16 or 17 bytes for each island.
 #[derive(Drop)]
 pub struct CaseIndex<'a> {
     graph: &'a Graph,
@@ -234,7 +234,7 @@ impl<'a> CaseIndex<'a> {
             index ≡ record { graph = graph.now; names = names.now }) }
     {
         let _ = graph.len();
-        let islands = joining::islands(alloc, graph)?;
+        let islands = tg_islands::islands(alloc, graph)?;
         let held = held_over_each(alloc, graph, &islands, names)?;
         let numbers = numbers_of(alloc, graph, &islands, names)?;
         let members = Members::of(alloc, numbers.as_slice(), islands.count())?;

@@ -3,14 +3,14 @@ ghost use Rattle.std.specs.Prelude.{◌≡◌, ◌<◌, ◌≤◌, ◌+◌, ◌^
 ghost use Rattle.std.specs.Map.{keys_of};
 ghost use Rattle.tg_graph.specs.Graphs.{has_vertex, WellFormed};
 ghost use Rattle.tg_graph.specs.GraphOf.{graph_of};
-ghost use Rattle.tg_analysis.specs.Sharing.{HeldInIsland};
-ghost use Rattle.tg_analysis.specs.Linked.{AreLinks};
+ghost use Rattle.tg_islands.specs.Sharing.{HeldInIsland};
+ghost use Rattle.tg_islands.specs.Linked.{AreLinks};
 ghost use Rattle.tg_analysis.specs.Searches.{AreNear, AddsUnmet, AreUnmet, IsBackwards, IsWayBack, IsSearch, IsInOrder, GoesRound, IsSearching, SearchesOn, IsWay};
 
-use crate::links::Links;
 use crate::met::Met;
 use std::alloc::{AllocError, Global};
 use tg_graph::{Graph, Name, Right};
+use tg_islands::Links;
 
 /// A chain of links from a vertex that holds a right.
 #[derive(Drop)]
@@ -137,9 +137,13 @@ impl Search {
         })
     }
 
-    /// How many links the graph has. It decides no answer.
+    /// How many links the graph has: an edge that links stands in the lists of both its ends. It decides no answer.
     pub fn link_count(&self) -> usize {
-        self.links.count()
+        let mut count: usize = 0;
+        for position in 0..self.links.len() {
+            count = count.saturating_add(self.links.at(position).len());
+        }
+        count / 2
     }
 
     // Meets the neighbours of the vertex at a place, unless they were met.

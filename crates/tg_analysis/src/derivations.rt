@@ -4,18 +4,18 @@ ghost use Rattle.tg_graph.specs.Graphs.{has_vertex, WellFormed};
 ghost use Rattle.tg_graph.specs.GraphOf.{graph_of};
 ghost use Rattle.tg_graph.specs.Limits.{most_vertices};
 ghost use Rattle.tg_graph.specs.RuleLists.{CanShare, CanShareAll};
-ghost use Rattle.tg_analysis.specs.Sharing.{IsChain};
+ghost use Rattle.tg_islands.specs.Sharing.{IsChain};
 ghost use Rattle.tg_analysis.specs.Derivations.{end_of, IsSoFar, IsCarried, IsDerivation};
 ghost use Rattle.tg_analysis.specs.SetDerivations.{AddsPart, IsDerivationOfAll};
 ghost use Rattle.tg_analysis.specs.Searches.{IsSearching, SearchesOn};
-ghost use Rattle.tg_analysis.specs.Questions.{derivation_fault, IsDueFault};
+ghost use Rattle.tg_islands.specs.Questions.{derivation_fault, IsDueFault};
 
 use crate::chains::Search;
 use crate::holders::lacks_holder;
 use crate::moves::add_move;
-use crate::questions::AskFault;
 use std::alloc::{AllocError, Global};
 use tg_graph::{Graph, MOST_VERTICES, Name, Right, Rights, Rule};
+use tg_islands::AskFault;
 
 // Adds the rules by which the right over `y` goes from a holder along a chain of links.
 //

@@ -2,12 +2,12 @@
 ghost use Rattle.std.specs.Prelude.{◌≡◌, ◌<◌, [], ◌∷◌, IfOk, IfSome, OnOk, true, length, replicate, None, ℕ};
 ghost use Rattle.std.specs.Map.{keys_of};
 ghost use Rattle.tg_rows.specs.Rows.{row_number};
-ghost use Rattle.tg_analysis.specs.Linked.{neighbours, is_near};
+ghost use Rattle.tg_islands.specs.Linked.{neighbours, is_near};
 ghost use Rattle.tg_analysis.specs.Flooding.{Meets, MeetsEnd, MeetsEnds};
 
-use crate::links::{Links, linked_end};
 use std::alloc::{AllocError, Global};
 use tg_graph::{Graph, OpenRow};
+use tg_islands::{Links, linked_end};
 
 /// A flood that gives numbers to the positions that it meets.
 #[derive(Drop)]

@@ -2,13 +2,13 @@
 ghost use Rattle.std.specs.Prelude.{◌≡◌, ◌≤◌, IfOk, IfSome, OnOk, length};
 ghost use Rattle.tg_graph.specs.Limits.{most_vertices};
 ghost use Rattle.tg_rows.specs.Rows.{row_number};
-ghost use Rattle.tg_analysis.specs.Numbering.{AreCounted};
+ghost use Rattle.tg_islands.specs.Numbering.{AreCounted};
 ghost use Rattle.tg_analysis.specs.Gathered.{target_of, TakesEdge, TakesEdges, Gathers};
 
 use crate::holdings::Holdings;
-use crate::numbering::Islands;
 use std::alloc::{AllocError, Global};
 use tg_graph::{Graph, OpenRow, Right, Wanted};
+use tg_islands::Islands;
 
 // The position of the target of an edge, if its label has the right.
 fn target_of(

@@ -1,5 +1,5 @@
-//! What can be shared in a protection graph: islands, answers, derivations, and the first case that breaks a
-//! claim.
+//! What can be shared in a protection graph: islands, answers, derivations, the first case that breaks a claim, and
+//! the least cut. Islands are those of `tg_islands`, cuts those of `tg_cuts`.
 #![tactic(auto)]
 
 mod answers;
@@ -9,7 +9,6 @@ mod case_index;
 mod cases;
 mod chains;
 mod derivations;
-mod disjoint_sets;
 mod edge_counts;
 mod flooding;
 mod gates;
@@ -18,15 +17,10 @@ mod heads;
 mod held;
 mod holders;
 mod holdings;
-mod joining;
 pub mod laws;
-mod links;
 mod members;
 mod met;
 mod moves;
-mod numbering;
-mod positions;
-mod questions;
 mod reaching;
 mod sharing_index;
 mod spreading;
@@ -38,11 +32,9 @@ pub use case_index::CaseIndex;
 pub use cases::Case;
 pub use derivations::{derivation, derivation_all};
 pub use gates::{Gate, OpenGate};
-pub use joining::islands;
-pub use links::Links;
-pub use numbering::Islands;
-pub use questions::AskFault;
 pub use reaching::{reach, who};
 pub use sharing_index::SharingIndex;
 pub use table_faults::TableFault;
 pub use tables::{MOST_WORKERS, PairTable, pair_table};
+pub use tg_cuts::{Ends, least_cut};
+pub use tg_islands::{AskFault, Islands, Links, islands};

@@ -4,8 +4,8 @@ ghost use Rattle.tg_names.specs.Names.{helper_name};
 ghost use Rattle.tg_graph.specs.Limits.{most_vertices};
 ghost use Rattle.tg_graph.specs.Graphs.{has_vertex, WellFormed};
 ghost use Rattle.tg_graph.specs.GraphOf.{graph_of};
-ghost use Rattle.tg_analysis.specs.Sharing.{linked};
-ghost use Rattle.tg_analysis.specs.Moves.{only, take_and_grant};
+ghost use Rattle.tg_islands.specs.Sharing.{linked};
+ghost use Rattle.tg_islands.specs.Moves.{only, take_and_grant};
 ghost use Rattle.tg_analysis.specs.Derivations.{direct_rule, rule_for_helper, helper_rules, IsUnderway, GoesOn};
 
 use std::alloc::AllocError;

@@ -7,17 +7,16 @@ ghost use Rattle.tg_names.specs.Sets.{IsNamed, nothing};
 ghost use Rattle.tg_graph.specs.Graphs.{has_vertex};
 ghost use Rattle.tg_graph.specs.GraphOf.{graph_of};
 ghost use Rattle.tg_rows.specs.Rows.{IsGraph, row_number};
-ghost use Rattle.tg_analysis.specs.Numbering.{AreCounted};
-ghost use Rattle.tg_analysis.specs.Questions.{IsDueFault};
+ghost use Rattle.tg_islands.specs.Numbering.{AreCounted};
+ghost use Rattle.tg_islands.specs.Questions.{IsDueFault};
 ghost use Rattle.tg_analysis.specs.Reaching.{name_fault, TellWho, TellReach, set_at, AreNamedSets, GainsRights, HoldUpTo, HasEach, MarkUpTo, GainsLabel, GainLabels, ReachUpTo};
 
 use crate::holders::named;
-use crate::numbering::Islands;
-use crate::questions::AskFault;
-use crate::{joining, laws};
+use crate::laws;
 use bitflags::Flags;
 use std::alloc::{AllocError, Global};
 use tg_graph::{Graph, Name, OpenRow, Rights, Wanted};
+use tg_islands::{AskFault, Islands};
 
 // So many empty sets.
 fn empty_sets(alloc: Global, count: usize) -> Result<Vec<Rights>, AllocError>
@@ -115,7 +114,7 @@ fn mark_all(alloc: Global, graph: &Graph, rights: Rights, y: Name) -> Result<Vec
     laws::shared_exactly();
     laws::together();
     let _ = graph.len();
-    let islands = joining::islands(alloc, graph)?;
+    let islands = tg_islands::islands(alloc, graph)?;
     let held = held_over(alloc, graph, &islands, y)?;
     let marks = marks_of(alloc, &islands, held.as_slice(), named(rights))?;
     Ok(marks)
@@ -221,7 +220,7 @@ fn reached_from(alloc: Global, graph: &Graph, x: Name) -> Result<Vec<Rights>, Al
 {
     laws::shared_exactly();
     let _ = graph.len();
-    let islands = joining::islands(alloc, graph)?;
+    let islands = tg_islands::islands(alloc, graph)?;
     let Some(number) = islands.number_of(graph, x) else {
         unreachable!();
     };

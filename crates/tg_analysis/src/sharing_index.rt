@@ -4,18 +4,17 @@ ghost use Rattle.tg_graph.specs.GraphOf.{graph_of};
 ghost use Rattle.tg_graph.specs.Graphs.{has_vertex};
 ghost use Rattle.tg_graph.specs.RuleLists.{CanShare};
 ghost use Rattle.tg_analysis.specs.ByTarget.{HoldsIn, IsIndexOf, has_found, unasked};
-ghost use Rattle.tg_analysis.specs.Numbering.{AreIslands};
-ghost use Rattle.tg_analysis.specs.Questions.{question_fault, IsDueFault};
+ghost use Rattle.tg_islands.specs.Numbering.{AreIslands};
+ghost use Rattle.tg_islands.specs.Questions.{question_fault, IsDueFault};
 
 use crate::by_target::EdgesByTarget;
 use crate::edge_counts::edge_count;
-use crate::numbering::Islands;
-use crate::questions::AskFault;
+use crate::laws;
 use crate::spreading::{Asked, holds_near, search_island};
-use crate::{joining, laws};
 use std::alloc::{AllocError, Global};
 use std::marker::Model;
 use tg_graph::{Graph, Name, Right, Rights};
+use tg_islands::{AskFault, Islands};
 
 // What was found for all questions is paid for once half as much work was done without it as it takes.
 const SHARE: usize = 2;
@@ -180,7 +179,7 @@ impl SharingIndex {
         if self.islands.is_some() || !self.is_paid(graph, self.work) {
             return;
         }
-        match joining::islands(alloc, graph) {
+        match tg_islands::islands(alloc, graph) {
             Ok(islands) => self.islands = Some(islands),
             Err(AllocError) => self.work = 0,
         }

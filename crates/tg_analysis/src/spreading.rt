@@ -10,18 +10,18 @@ ghost use Rattle.tg_graph.specs.Graphs.{has_vertex};
 ghost use Rattle.tg_graph.specs.GraphOf.{graph_of};
 ghost use Rattle.tg_rows.specs.Rows.{IsGraph, row_number};
 ghost use Rattle.tg_graph.specs.RuleLists.{CanShareAll};
-ghost use Rattle.tg_analysis.specs.Sharing.{HeldInIsland};
-ghost use Rattle.tg_analysis.specs.Linked.{is_near};
+ghost use Rattle.tg_islands.specs.Sharing.{HeldInIsland};
+ghost use Rattle.tg_islands.specs.Linked.{is_near};
 ghost use Rattle.tg_analysis.specs.Flooding.{work_left};
 ghost use Rattle.tg_analysis.specs.Spreading.{BeginsAt, Follows, FollowsOn, StepsOn, ReadsEdge, Reads, IsMissing, AreHeldInIsland, IsSpread, GoesOn, RunsOut, IsAtRest};
 
 use crate::flooding::Flood;
 use crate::holders::lacks_holder;
 use crate::laws;
-use crate::links::{Links, linked_end};
 use bitflags::Flags;
 use std::alloc::{AllocError, Global};
 use tg_graph::{Graph, Name, OpenRow, Rights};
+use tg_islands::{Links, linked_end};
 
 /// The question whether x can come to have each right of a set over y.
 #[derive(Clone, Copy)]

@@ -7,13 +7,13 @@ ghost use Rattle.tg_analysis.specs.Tables.{table_len, table_cell, IsPairTable, m
 use crate::blocks::gather_all;
 use crate::gates::Gate;
 use crate::holdings::Holdings;
-use crate::numbering::Islands;
+use crate::laws;
 use crate::table_faults::TableFault;
-use crate::{joining, laws};
 use std::alloc::{AllocError, Global};
 use std::marker::Model;
 use std::thread::Threads;
 use tg_graph::{Graph, MOST_VERTICES, Right};
+use tg_islands::Islands;
 
 /// How many workers there may be. There is at least one.
 pub const MOST_WORKERS: u64 = 16;
@@ -31,7 +31,7 @@ pub struct PairTable {
 impl Model for PairTable {
     ghost use Rattle.tg_analysis.specs.Tables.{Table};
     ghost use Rattle.std.specs.Prelude.{length};
-    ghost use Rattle.tg_analysis.specs.Numbering.{AreCounted};
+    ghost use Rattle.tg_islands.specs.Numbering.{AreCounted};
 
     ghost Value = { Table };
 
@@ -77,7 +77,7 @@ fn compute<R: Threads + Sync, G: Gate>(
 {
     laws::shared_exactly();
     let _ = graph.len();
-    let islands = joining::islands(alloc, graph)?;
+    let islands = tg_islands::islands(alloc, graph)?;
     let held = gather_all(rt, alloc, graph, &islands, right, workers, gate)?;
     Ok(PairTable { islands, held })
 }

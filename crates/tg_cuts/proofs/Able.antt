@@ -7,10 +7,10 @@ use Rattle.tg_names.specs.Names.{Name, same_name}
 use Rattle.tg_graph.specs.Graphs.{ProtectionGraph, has_vertex, WellFormed}
 use Rattle.tg_graph.specs.RuleLists.{CanShare}
 use Rattle.tg_rows.proofs.Rows.{same_bytes}
-use Rattle.tg_analysis.specs.Sharing.{linked, IsChain, HeldInIsland, NoRepeat, SharedExactly}
-use Rattle.tg_analysis.proofs.NameTests.{same_refl}
-use Rattle.tg_analysis.proofs.OneIsland.{starts, island_refl, island_link, island_trans}
-use Rattle.tg_analysis.proofs.Short.{cut_short, short_enough}
+use Rattle.tg_islands.specs.Sharing.{linked, IsChain, HeldInIsland, NoRepeat, SharedExactly}
+use Rattle.tg_islands.proofs.NameTests.{same_refl}
+use Rattle.tg_islands.proofs.OneIsland.{starts, island_refl, island_link, island_trans}
+use Rattle.tg_islands.proofs.Short.{cut_short, short_enough}
 
 -- ---- a name of a list that passes
 pub any_there : (t : Name → Bool) (vs : List Name) (w : Name) → list_any (same_name w) vs ≡ true → t w ≡ true → list_any t vs ≡ true

@@ -16,10 +16,10 @@ use Rattle.tg_names.specs.Names.{Name, same_name}
 use Rattle.tg_graph.specs.Graphs.{ProtectionGraph, has_vertex}
 use Rattle.tg_rows.proofs.Rows.{same_bytes}
 use Rattle.tg_cuts.specs.declared.kept.Ends.{Ends}
-use Rattle.tg_analysis.specs.Sharing.{linked}
+use Rattle.tg_islands.specs.Sharing.{linked}
 use Rattle.tg_cuts.specs.Cuts.{is_one_of, Loses, Keeps}
 use Rattle.tg_cuts.specs.CutParts.{role_by}
-use Rattle.tg_analysis.proofs.OneIsland.{linked_sym}
+use Rattle.tg_islands.proofs.OneIsland.{linked_sym}
 use Rattle.tg_cuts.proofs.Able.{able, able-holds, able-link}
 use Rattle.tg_cuts.proofs.FlowEdges.{role_between, AreEdgesOf}
 use Rattle.tg_cuts.proofs.Removed.{loses-vertex}

@@ -20,11 +20,11 @@ use Rattle.tg_graph.specs.GraphOf.{graph_of}
 use Rattle.tg_rows.specs.Rows.{Entries, IsGraph}
 use Rattle.tg_rows.proofs.Rows.{same_bytes}
 use Rattle.tg_cuts.specs.declared.kept.Ends.{Ends}
-use Rattle.tg_analysis.specs.Moves.{take_and_grant}
-use Rattle.tg_analysis.specs.Sharing.{SharedExactly}
+use Rattle.tg_islands.specs.Moves.{take_and_grant}
+use Rattle.tg_islands.specs.Sharing.{SharedExactly}
 use Rattle.tg_cuts.specs.Cuts.{IsTheCut, HasNoCut}
 use Rattle.tg_cuts.specs.CutParts.{role_by, name_at, AreEndless, AreSides, free_of, AreLosses}
-use Rattle.tg_analysis.proofs.Places.{position-at, place_of, place-known}
+use Rattle.tg_islands.proofs.Places.{position-at, place_of, place-known}
 use Rattle.tg_cuts.proofs.Able.{able-can}
 use Rattle.tg_cuts.proofs.Removed.{loses-vertex, loses-well, cut-keeps}
 use Rattle.tg_cuts.proofs.FlowEdges.{AreEdgesOf, name-is, carried-edges, carried-places, free-at}

@@ -11,7 +11,7 @@ use Rattle.tg_graph.specs.declared.rules.Rule.TheVariants.{Take, Grant, Create, 
 use Rattle.tg_names.specs.Names.{Name}
 use Rattle.tg_cuts.specs.declared.kept.Ends.{Ends}
 use Rattle.tg_cuts.specs.Cuts.{IsBelow, ComesFirst, AreInOrder, edges_of}
-use Rattle.tg_analysis.proofs.NameTests.{same_refl}
+use Rattle.tg_islands.proofs.NameTests.{same_refl}
 
 -- ---- what holds of each item
 pub all-map : {A : Type 0} (P Q : A → Type 0) → ((a : A) → P a → Q a) → (xs : List A) → AllByRecursion P xs → AllByRecursion Q xs

@@ -23,12 +23,12 @@ use Rattle.tg_rows.specs.Rows.{Entries, IsGraph, IsRow, row_number}
 use Rattle.tg_rows.proofs.Places.{distinct_from_up}
 use Rattle.tg_graph.proofs.Positions.{at-position}
 use Rattle.tg_cuts.specs.declared.kept.Ends.{Ends}
-use Rattle.tg_analysis.specs.Linked.{IsBefore}
+use Rattle.tg_islands.specs.Linked.{IsBefore}
 use Rattle.tg_cuts.specs.Cuts.{is_one_of}
 use Rattle.tg_cuts.specs.CutParts.{role_by, label_role, name_at, HasRole, IsListed, EdgesUpTo, AreFlowEdges, AreCarried, free_of}
-use Rattle.tg_analysis.proofs.Linked.{before, row_past}
-use Rattle.tg_analysis.proofs.Places.{position-at, place_of, place-known, row_of, holds-place, place-holds}
-use Rattle.tg_analysis.proofs.ByTarget.{behind-keeps, behind-last, behind-is, some-pair, is_read, end-there}
+use Rattle.tg_islands.proofs.Linked.{before, row_past}
+use Rattle.tg_islands.proofs.Places.{position-at, place_of, place-known, row_of, holds-place, place-holds}
+use Rattle.tg_islands.proofs.RowEnds.{behind-keeps, behind-last, behind-is, some-pair, is_read, end-there}
 
 -- ---- rows
 module _ (es : Entries) where

@@ -7,12 +7,12 @@ use Rattle.std.proofs.lemmas.Option.{slice_get_within, get_or_from_slice_get}
 use Rattle.tg_names.specs.Names.{Name}
 use Rattle.tg_graph.specs.Graphs.{ProtectionGraph, has_vertex}
 use Rattle.tg_cuts.specs.declared.kept.Ends.{Ends}
-use Rattle.tg_analysis.specs.declared.questions.AskFault.{AskFault}
-use Rattle.tg_analysis.specs.declared.questions.AskFault.TheVariants.{Unknown, TooLarge}
+use Rattle.tg_islands.specs.declared.questions.AskFault.{AskFault}
+use Rattle.tg_islands.specs.declared.questions.AskFault.TheVariants.{Unknown, TooLarge}
 use Rattle.tg_graph.specs.Limits.{most_vertices}
 use Rattle.tg_cuts.specs.Cuts.{unknown_end_or, cut_fault}
 use Rattle.tg_cuts.specs.CutParts.{KnowsEnds, KnowsAllEnds, IsUnknownEnd, IsUnknownEndOf}
-use Rattle.tg_analysis.proofs.Rounds.{position-none}
+use Rattle.tg_islands.proofs.Places.{position-none}
 
 module _ (g : ProtectionGraph) (e : Ends) (later : Option AskFault) (more : List Ends) where
   -- the source is no vertex

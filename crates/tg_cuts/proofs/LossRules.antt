@@ -33,12 +33,12 @@ use Rattle.tg_graph.proofs.Positions.{at-position}
 use Rattle.tg_rows.proofs.Rows.{same_bytes}
 use Rattle.tg_names.proofs.Sets.{member-where}
 use Rattle.tg_cuts.specs.declared.kept.Ends.{Ends}
-use Rattle.tg_analysis.specs.Moves.{only, take_and_grant}
+use Rattle.tg_islands.specs.Moves.{only, take_and_grant}
 use Rattle.tg_cuts.specs.Cuts.{IsBelow, ComesFirst, AreInOrder, edges_of}
 use Rattle.tg_cuts.specs.CutParts.{differ, is_lost_by, is_lost, IsLoss, free_of, TakesAt, TakesNone, AddsLoss, takes, are_taken, RowRules, AddsRules, has_edges, IsSourceAt, AreSources, IsLossRule, AreLosses}
-use Rattle.tg_analysis.proofs.NameTests.{same_refl, any_push, none_member}
-use Rattle.tg_analysis.proofs.Places.{position-at, RowOf, row_of, place_of, place-known, holds-place, place-holds}
-use Rattle.tg_analysis.proofs.ByTarget.{is_read, end-there, found}
+use Rattle.tg_islands.proofs.NameTests.{same_refl, any_push, none_member}
+use Rattle.tg_islands.proofs.Places.{position-at, RowOf, row_of, place_of, place-known, holds-place, place-holds}
+use Rattle.tg_islands.proofs.RowEnds.{is_read, end-there, found}
 use Rattle.tg_cuts.proofs.EdgeOrder.{all-map, all-append, all-at, order-append, edges-append, edges-each}
 use Rattle.tg_cuts.proofs.Removed.{same_remove}
 use Rattle.tg_cuts.proofs.FlowEdges.{free-at, names-past, one-position}

@@ -22,12 +22,12 @@ use Rattle.tg_graph.specs.Graphs.{ProtectionGraph, has_vertex, WellFormed}
 use Rattle.tg_graph.specs.RuleLists.{after_all}
 use Rattle.tg_rows.proofs.Rows.{same_bytes}
 use Rattle.tg_cuts.specs.declared.kept.Ends.{Ends}
-use Rattle.tg_analysis.specs.Moves.{take_and_grant}
-use Rattle.tg_analysis.specs.Sharing.{linked, IsChain, HeldInIsland, SharedExactly}
+use Rattle.tg_islands.specs.Moves.{take_and_grant}
+use Rattle.tg_islands.specs.Sharing.{linked, IsChain, HeldInIsland, SharedExactly}
 use Rattle.tg_cuts.specs.Cuts.{Loses, edges_of, IsNearest}
 use Rattle.tg_cuts.specs.CutParts.{role_by, differ, AreLosses}
-use Rattle.tg_analysis.proofs.NameTests.{same_refl}
-use Rattle.tg_analysis.proofs.OneIsland.{linked_sym}
+use Rattle.tg_islands.proofs.NameTests.{same_refl}
+use Rattle.tg_islands.proofs.OneIsland.{linked_sym}
 use Rattle.tg_cuts.proofs.Able.{able, held-able, able-holds, able-link, able-can, can-held}
 use Rattle.tg_cuts.proofs.Removed.{removes-lose, loses-vertex, loses-well}
 use Rattle.tg_cuts.proofs.FlowEdges.{role_between, AreEdgesOf}

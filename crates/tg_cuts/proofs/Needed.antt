@@ -14,13 +14,13 @@ use Rattle.tg_graph.specs.RuleLists.{after_all, CanShare}
 use Rattle.tg_rows.proofs.Rows.{same_bytes}
 use Rattle.tg_names.proofs.RightsWords.{one_itself}
 use Rattle.tg_cuts.specs.declared.kept.Ends.{Ends}
-use Rattle.tg_analysis.specs.Moves.{only, take_and_grant}
-use Rattle.tg_analysis.specs.Sharing.{linked, IsChain, InOneIsland, HeldInIsland, SharedExactly}
+use Rattle.tg_islands.specs.Moves.{only, take_and_grant}
+use Rattle.tg_islands.specs.Sharing.{linked, IsChain, InOneIsland, HeldInIsland, SharedExactly}
 use Rattle.tg_cuts.specs.Cuts.{is_one_of, Loses, Keeps, edges_of, IsLeastCut, IsNeeded}
 use Rattle.tg_cuts.specs.CutParts.{differ, is_lost, AreLosses, IsLossRule}
-use Rattle.tg_analysis.proofs.NameTests.{same_refl, edge_cases}
-use Rattle.tg_analysis.proofs.Counts.{has, without, without_lt, without_keeps}
-use Rattle.tg_analysis.proofs.OneIsland.{linked_sym, starts, island_refl, island_link, island_trans}
+use Rattle.tg_islands.proofs.NameTests.{same_refl, edge_cases}
+use Rattle.tg_islands.proofs.Counts.{has, without, without_lt, without_keeps}
+use Rattle.tg_islands.proofs.OneIsland.{linked_sym, starts, island_refl, island_link, island_trans}
 use Rattle.tg_cuts.proofs.Able.{able, able-held, can-held}
 use Rattle.tg_cuts.proofs.EdgeOrder.{all-at}
 use Rattle.tg_cuts.proofs.Removed.{edge-among, edges-length, removes-lose, loses-vertex, loses-well}

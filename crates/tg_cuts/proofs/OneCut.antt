@@ -16,13 +16,13 @@ use Rattle.tg_rows.proofs.Rows.{same_bytes}
 use Rattle.tg_names.proofs.Sets.{same_set}
 use Rattle.tg_names.proofs.RightsWords.{one_itself, one_alone}
 use Rattle.tg_cuts.specs.declared.kept.Ends.{Ends}
-use Rattle.tg_analysis.specs.Moves.{only, take_and_grant}
-use Rattle.tg_analysis.specs.Sharing.{linked, InOneIsland, HeldInIsland}
+use Rattle.tg_islands.specs.Moves.{only, take_and_grant}
+use Rattle.tg_islands.specs.Sharing.{linked, InOneIsland, HeldInIsland}
 use Rattle.tg_cuts.specs.Cuts.{is_one_of, Loses, Keeps, TakesHeld, ComesFirst, AreInOrder, edges_of, IsTheCut, ThereIsOneCut, NoRuleWhereNo, NotBoth, CutsAreShort}
 use Rattle.tg_cuts.specs.CutParts.{takes, are_taken}
-use Rattle.tg_analysis.proofs.NameTests.{same_refl, edge_cases}
-use Rattle.tg_analysis.proofs.OneIsland.{linked_sym, island_trans}
-use Rattle.tg_analysis.proofs.AllHeld.{shared_exactly}
+use Rattle.tg_islands.proofs.NameTests.{same_refl, edge_cases}
+use Rattle.tg_islands.proofs.OneIsland.{linked_sym, island_trans}
+use Rattle.tg_islands.proofs.AllHeld.{shared_exactly}
 use Rattle.tg_cuts.proofs.Able.{able, held-able, able-held, able-holds, able-link, able-can, can-held, can-able}
 use Rattle.tg_cuts.proofs.EdgeOrder.{first-itself, first-both}
 use Rattle.tg_cuts.proofs.Removed.{remove-held, some_member, after-removes, edges-length, held-removes, cut-loses, cut-keeps, loses-vertex, loses-well}

@@ -20,7 +20,7 @@ use Rattle.tg_rows.proofs.Rows.{same_bytes}
 use Rattle.tg_cuts.specs.declared.kept.Ends.{Ends}
 use Rattle.tg_cuts.specs.Cuts.{is_one_of, Loses, Keeps, TakesHeld, edges_of, CutsAreAccepted}
 use Rattle.tg_cuts.specs.CutParts.{are_taken}
-use Rattle.tg_analysis.proofs.NameTests.{same_refl}
+use Rattle.tg_islands.proofs.NameTests.{same_refl}
 
 -- ---- a test that a rule passes
 no_member : (s : Rights) → IsNamed s → ((right : Right) → member s right ≡ false) → is_empty_set s ≡ true

@@ -22,11 +22,11 @@ use Rattle.tg_graph.specs.RuleLists.{after_all}
 use Rattle.tg_rows.proofs.Rows.{same_bytes}
 use Rattle.tg_names.proofs.RightsWords.{one_itself, one_alone}
 use Rattle.tg_cuts.specs.declared.kept.Ends.{Ends}
-use Rattle.tg_analysis.specs.Moves.{only, take_and_grant}
-use Rattle.tg_analysis.specs.Sharing.{linked, IsChain, HeldInIsland, SharedExactly}
+use Rattle.tg_islands.specs.Moves.{only, take_and_grant}
+use Rattle.tg_islands.specs.Sharing.{linked, IsChain, HeldInIsland, SharedExactly}
 use Rattle.tg_cuts.specs.Cuts.{is_one_of, Loses, TakesHeld, edges_of, IsLeastCut}
 use Rattle.tg_cuts.specs.CutParts.{role_by, differ, is_lost, are_taken, IsLossRule, AreLosses}
-use Rattle.tg_analysis.proofs.NameTests.{same_refl}
+use Rattle.tg_islands.proofs.NameTests.{same_refl}
 use Rattle.tg_cuts.proofs.Able.{able, able-can, can-held}
 use Rattle.tg_cuts.proofs.EdgeOrder.{all-map, all-at, order-one, edges-each}
 use Rattle.tg_cuts.proofs.Removed.{IsRemove, is-remove, same_remove, some_member, AfterRemoves, after-removes, edges-length, removes-lose, loses-vertex, loses-well}

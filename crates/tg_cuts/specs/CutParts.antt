@@ -26,10 +26,10 @@ use Rattle.tg_rows.specs.Rows.{Entries, row_number}
 use Rattle.tg_names.specs.Names.{Name, same_name}
 use Rattle.tg_graph.specs.Graphs.{ProtectionGraph}
 use Rattle.tg_cuts.specs.declared.kept.Ends.{Ends}
-use Rattle.tg_analysis.specs.declared.questions.AskFault.{AskFault}
-use Rattle.tg_analysis.specs.declared.questions.AskFault.TheVariants.{Unknown}
-use Rattle.tg_analysis.specs.Linked.{IsBefore}
-use Rattle.tg_analysis.specs.Moves.{only, take_and_grant}
+use Rattle.tg_islands.specs.declared.questions.AskFault.{AskFault}
+use Rattle.tg_islands.specs.declared.questions.AskFault.TheVariants.{Unknown}
+use Rattle.tg_islands.specs.Linked.{IsBefore}
+use Rattle.tg_islands.specs.Moves.{only, take_and_grant}
 use Rattle.tg_cuts.specs.Cuts.{is_one_of, AreInOrder, edges_of, unknown_end_or}
 
 -- ---- the ends of kept edges

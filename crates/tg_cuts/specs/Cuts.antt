@@ -14,10 +14,10 @@ use Rattle.tg_names.specs.Names.{Name, same_name}
 use Rattle.tg_graph.specs.Graphs.{ProtectionGraph, has_vertex, WellFormed}
 use Rattle.tg_graph.specs.Rules.{with_rights}
 use Rattle.tg_graph.specs.RuleLists.{AllAccepted, after_all, CanShare}
-use Rattle.tg_analysis.specs.declared.questions.AskFault.{AskFault}
-use Rattle.tg_analysis.specs.declared.questions.AskFault.TheVariants.{Unknown, TooLarge}
+use Rattle.tg_islands.specs.declared.questions.AskFault.{AskFault}
+use Rattle.tg_islands.specs.declared.questions.AskFault.TheVariants.{Unknown, TooLarge}
 use Rattle.tg_cuts.specs.declared.kept.Ends.{Ends}
-use Rattle.tg_analysis.specs.Moves.{only}
+use Rattle.tg_islands.specs.Moves.{only}
 
 -- ---- edges
 -- the edge from u to v is one of them

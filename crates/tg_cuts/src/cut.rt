@@ -4,8 +4,8 @@ ghost use Rattle.std.specs.Map.{keys_of};
 ghost use Rattle.tg_flow.specs.Courses.{is_in};
 ghost use Rattle.tg_names.specs.Sets.{member};
 ghost use Rattle.tg_graph.specs.GraphOf.{graph_of};
-ghost use Rattle.tg_analysis.specs.Moves.{take_and_grant};
-ghost use Rattle.tg_analysis.specs.Questions.{IsDueFault};
+ghost use Rattle.tg_islands.specs.Moves.{take_and_grant};
+ghost use Rattle.tg_islands.specs.Questions.{IsDueFault};
 ghost use Rattle.tg_cuts.specs.Cuts.{IsTheCut, HasNoCut, cut_fault};
 ghost use Rattle.tg_cuts.specs.CutParts.{AreEndless, AreSides};
 
@@ -13,8 +13,8 @@ use crate::kept::{Ends, check_edges, position_of};
 use crate::losses::{Freed, is_in};
 use crate::network::{Sought, network_of};
 use std::alloc::{AllocError, Global};
-use tg_analysis::AskFault;
 use tg_graph::{Graph, MOST_VERTICES, Name, Right, Rule};
+use tg_islands::AskFault;
 
 // A right over y, with the positions of x and y, and the edges that are kept.
 #[derive(Clone, Copy)]
@@ -87,7 +87,7 @@ fn cut_of(
         (λ rules. IsTheCut (graph_of graph.now) asked.now.right x asked.now.y asked.now.kept.now
         rules.items)) }
 {
-    tg_analysis::laws::shared_exactly();
+    tg_islands::laws::shared_exactly();
     tg_flow::laws::units_cross();
     tg_flow::laws::sides_part();
     let _ = graph.len();

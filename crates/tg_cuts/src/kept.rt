@@ -4,12 +4,12 @@ ghost use Rattle.std.specs.Map.{keys_of};
 ghost use Rattle.tg_names.specs.Names.{same_name};
 ghost use Rattle.tg_graph.specs.Graphs.{has_vertex};
 ghost use Rattle.tg_graph.specs.GraphOf.{graph_of};
-ghost use Rattle.tg_analysis.specs.declared.questions.AskFault.TheVariants.{Unknown};
+ghost use Rattle.tg_islands.specs.declared.questions.AskFault.TheVariants.{Unknown};
 ghost use Rattle.tg_cuts.specs.Cuts.{is_one_of};
 ghost use Rattle.tg_cuts.specs.CutParts.{KnowsEnds, KnowsAllEnds, IsUnknownEnd, IsUnknownEndOf};
 
-use tg_analysis::AskFault;
 use tg_graph::{Graph, Name};
+use tg_islands::AskFault;
 
 /// An edge, by its ends.
 #[derive(Clone, Copy, PartialEq, Eq, Debug)]

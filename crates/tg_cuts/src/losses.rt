@@ -8,7 +8,7 @@ ghost use Rattle.tg_names.specs.Sets.{member, IsNamed};
 ghost use Rattle.tg_names.specs.Names.{same_name};
 ghost use Rattle.tg_graph.specs.GraphOf.{graph_of};
 ghost use Rattle.tg_rows.specs.Rows.{IsGraph, row_number};
-ghost use Rattle.tg_analysis.specs.Moves.{take_and_grant};
+ghost use Rattle.tg_islands.specs.Moves.{take_and_grant};
 ghost use Rattle.tg_cuts.specs.CutParts.{differ, IsLoss, free_of, TakesAt, TakesNone, AddsLoss, AddsRules, IsSourceAt, AreSources, AreLosses};
 
 use crate::network::name_of;

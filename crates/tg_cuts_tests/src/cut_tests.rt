@@ -3,8 +3,7 @@ use crate::test_answers::{cut_of, shares};
 use crate::test_graphs::{assert_rules, graph, most_vertices, name, numbered, right, set, word};
 use std::alloc::Global;
 use std::process::Abort;
-use tg_analysis::AskFault;
-use tg_cuts::Ends;
+use tg_analysis::{AskFault, Ends};
 use tg_graph::{Graph, Name, Right, Rule};
 
 // The right, x and y of a question, in words.

@@ -1,4 +1,4 @@
-//! The tests of `tg_cuts`, which stand apart from it so that it is proved once.
+//! The tests of least cuts, which stand apart from their crates so that these are proved once.
 #![tactic(auto)]
 
 #[cfg(test)]

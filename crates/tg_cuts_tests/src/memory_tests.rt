@@ -5,8 +5,7 @@ ghost use Rattle.tg_names.specs.Sets.{IsNamed};
 use crate::test_answers::cut_of;
 use std::alloc::Global;
 use std::test::Fail;
-use tg_analysis::AskFault;
-use tg_cuts::Ends;
+use tg_analysis::{AskFault, Ends};
 use tg_graph::{EdgeFault, Graph, Name, Right, Rights, Rule, VertexFault};
 
 fn added(graph: &mut Graph, name: Name) -> Result<(), VertexFault> {

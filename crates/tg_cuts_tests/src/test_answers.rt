@@ -1,8 +1,7 @@
 //! What a least cut and a question answer. The calls tell nothing of what they saw, so the check of a
 //! test that makes many of them stays short.
 use std::alloc::Global;
-use tg_analysis::{AskFault, can_share};
-use tg_cuts::{Ends, least_cut};
+use tg_analysis::{AskFault, Ends, can_share, least_cut};
 use tg_graph::{Graph, Name, Right, Rule};
 
 /// Which rights have to go.

@@ -12,8 +12,8 @@ use Rattle.tg_text.specs.GraphText.{graph_text}
 use Rattle.tg_text.specs.Reading.{◌>>=◌}
 use Rattle.tg_text.proofs.SmallGraphs.{graph_is_small}
 use Rattle.tg_text.proofs.Steps.{bind_ok}
-use Rattle.tg_analysis.specs.declared.questions.AskFault.{AskFault}
-use Rattle.tg_analysis.specs.declared.questions.AskFault.TheVariants.{Unknown, TooLarge}
+use Rattle.tg_islands.specs.declared.questions.AskFault.{AskFault}
+use Rattle.tg_islands.specs.declared.questions.AskFault.TheVariants.{Unknown, TooLarge}
 use Rattle.tg_cuts.specs.declared.kept.Ends.{Ends}
 use Rattle.tg_cuts.specs.Cuts.{Loses, Keeps, IsTheCut, HasNoCut, unknown_end_or, cut_fault}
 use Rattle.tg_cuts.proofs.OneCut.{one-cut, not-both}

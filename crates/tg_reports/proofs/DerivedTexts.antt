@@ -22,7 +22,7 @@ use Rattle.tg_text.proofs.RuleBack.{length-more}
 use Rattle.tg_text.proofs.RulesBack.{rules-read, skipped-line}
 use Rattle.tg_text.proofs.SmallGraphs.{graph_is_small}
 use Rattle.tg_text.proofs.Steps.{bind_ok}
-use Rattle.tg_analysis.specs.Moves.{only}
+use Rattle.tg_islands.specs.Moves.{only}
 use Rattle.tg_analysis.proofs.Parts.{derivations_of_all_are_short, one_right_alone}
 use Rattle.tg_reports.specs.Readings.{Question, from_text, graph_in, rights_in, name_in, vertex_in, question_in}
 use Rattle.tg_reports.specs.Derived.{derivation_report}

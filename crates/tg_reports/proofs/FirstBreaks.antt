@@ -19,7 +19,8 @@ use Rattle.tg_text.proofs.NameOrder.{Strict, Above, among, among-in_order, stric
 use Rattle.tg_analysis.specs.declared.cases.Case.{Case}
 use Rattle.tg_analysis.specs.Cases.{IsEarlier, IsCase, FindsFirst, AreVertices, CannotShare, StandsAt, StandsUnmarked}
 use Rattle.tg_analysis.proofs.CaseOrder.{same_right}
-use Rattle.tg_analysis.proofs.Places.{place_of, place-known}
+use Rattle.tg_analysis.proofs.FirstCases.{stands-once}
+use Rattle.tg_islands.proofs.Places.{place_of, place-known}
 use Rattle.tg_reports.specs.Policies.{Membership, stands_for, some_stands_for, IsAbout, IsBeyond, IsVerdict, ComesBefore, ByRight, ByFirst, BySecond}
 use Rattle.tg_reports.specs.PolicyParts.{AreRisingPlaces, IsNamed, NamesVertices, is_marked_name}
 use Rattle.tg_reports.proofs.GroupLaws.{marked-at, position-there}
@@ -108,11 +109,7 @@ module _ (names : List Name) (strict : Strict names) where
   places-in-turn places rising i k u v less (p, at_p, at_u) (q, at_q, at_v) = ordered names strict p q u v (rising i k p q less at_p at_q) at_u at_v
 
   pub meant-once : (places : List ℕ) → IsMeantOnce (StandsAt names places)
-  meant-once places i u v (p, at_p, at_u) (q, at_q, at_v) =
-      let both : Some p ≡ Some q = sym at_p ∙ at_q in
-      let same : p ≡ q = cc in
-      let there : Some u ≡ Some v = sym at_u ∙ ap (slice_get names) same ∙ at_v in
-      cc
+  meant-once places i u v h j = sym (stands-once names places i u v h j)
 
   pub unmarked-in-turn : (marks : List Bool) → AreInTurn (StandsUnmarked names marks)
   unmarked-in-turn marks i k u v less h j = ordered names strict i k u v less h.0 j.0

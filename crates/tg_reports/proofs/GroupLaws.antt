@@ -22,8 +22,8 @@ use Rattle.tg_text.specs.declared.policy_text.Operand.{Operand}
 use Rattle.tg_text.specs.declared.policy_text.Operand.TheVariants as operand
 use Rattle.tg_text.specs.Canonical.{name_cmp}
 use Rattle.tg_analysis.specs.Cases.{ArePlaces, StandsAt, is_marked}
-use Rattle.tg_analysis.proofs.ByTarget.{behind-is, behind-keeps, behind-last, found}
-use Rattle.tg_analysis.proofs.Places.{place-known}
+use Rattle.tg_islands.proofs.RowEnds.{behind-is, behind-keeps, behind-last, found}
+use Rattle.tg_islands.proofs.Places.{place-known}
 use Rattle.tg_reports.specs.declared.groups.Groups.{Groups}
 use Rattle.tg_reports.specs.Policies.{Membership, stands_for, some_stands_for}
 use Rattle.tg_reports.specs.PolicyParts.{AreMarked, AreRisingPlaces, is_marked_name, membership}

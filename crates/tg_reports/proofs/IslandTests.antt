@@ -9,8 +9,8 @@ use Rattle.tg_names.specs.Names.{Name, same_name}
 use Rattle.tg_graph.specs.Graphs.{ProtectionGraph, has_vertex}
 use Rattle.tg_text.specs.Canonical.{in_name_order}
 use Rattle.tg_text.proofs.NameOrder.{among, among-in_order, same_name-refl}
-use Rattle.tg_analysis.specs.Numbering.{AreIslands, number_of}
-use Rattle.tg_analysis.proofs.Places.{place_of, position-at}
+use Rattle.tg_islands.specs.Numbering.{AreIslands, number_of}
+use Rattle.tg_islands.proofs.Places.{place_of, position-at}
 use Rattle.tg_reports.specs.Reports.{TellsIslands, islands_text, island_line}
 use Rattle.tg_reports.specs.Outcomes.{with_number, numbered_line, numbered_text}
 use Rattle.tg_reports.proofs.OneReport.{either_true}

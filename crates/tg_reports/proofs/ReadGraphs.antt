@@ -15,7 +15,7 @@ use Rattle.tg_text.specs.GraphText.{GraphSoFar, graph_text, nothing_read}
 use Rattle.tg_text.specs.GraphGrammar.{IsGraphItem}
 use Rattle.tg_text.proofs.GraphLaws.{graph_texts_are_those}
 use Rattle.tg_rows.proofs.Rows.{same_bytes}
-use Rattle.tg_analysis.proofs.NameTests.{any_push, edge_cases}
+use Rattle.tg_islands.proofs.NameTests.{any_push, edge_cases}
 
 well_edge : (g : ProtectionGraph) (x z : Name) (s : Rights) → WellFormed g → IsTrue (has_vertex g x) → IsTrue (has_vertex g z) → WellFormed (with_rights g x z s)
 well_edge g x z s well x_there z_there = record {

@@ -6,7 +6,7 @@ use Rattle.tg_names.specs.declared.right_sets.Right.{Right}
 use Rattle.tg_names.specs.Names.{Name}
 use Rattle.tg_graph.specs.Graphs.{ProtectionGraph}
 use Rattle.tg_analysis.specs.Tables.{Table, table_cell, IsPairTable}
-use Rattle.tg_analysis.proofs.Places.{place_of, position-at}
+use Rattle.tg_islands.proofs.Places.{place_of, position-at}
 use Rattle.tg_reports.specs.Reports.{TellsSharing, digit_for, table_text}
 use Rattle.tg_reports.specs.Outcomes.{place_in, placed, digit_at, placed_line, placed_text}
 

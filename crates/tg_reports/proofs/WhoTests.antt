@@ -9,7 +9,7 @@ use Rattle.tg_names.specs.Sets.{nothing}
 use Rattle.tg_names.specs.Names.{Name}
 use Rattle.tg_graph.specs.Graphs.{ProtectionGraph}
 use Rattle.tg_analysis.specs.Reaching.{TellWho, TellReach}
-use Rattle.tg_analysis.proofs.Places.{place_of, position-at}
+use Rattle.tg_islands.proofs.Places.{place_of, position-at}
 use Rattle.tg_reports.specs.Reports.{TellsWho, IsReached, TellsReach}
 use Rattle.tg_reports.specs.Outcomes.{is_marked_name, set_of_name}
 

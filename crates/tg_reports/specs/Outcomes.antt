@@ -15,8 +15,8 @@ use Rattle.tg_graph.specs.Rules.{refusal_of, after}
 use Rattle.tg_text.specs.declared.rule_text.RuleLine.{RuleLine}
 use Rattle.tg_text.specs.declared.script_text.ScriptLine.{ScriptLine}
 use Rattle.tg_text.specs.ScriptText.{ScriptOf}
-use Rattle.tg_analysis.specs.Numbering.{number_of}
-use Rattle.tg_analysis.specs.declared.questions.AskFault.{AskFault}
+use Rattle.tg_islands.specs.Numbering.{number_of}
+use Rattle.tg_islands.specs.declared.questions.AskFault.{AskFault}
 use Rattle.tg_cuts.specs.declared.kept.Ends.{Ends}
 use Rattle.tg_cuts.specs.Cuts.{unknown_end_or, cut_fault}
 use Rattle.tg_store.specs.declared.events.HallFault.{HallFault}

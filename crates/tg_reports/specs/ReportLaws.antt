@@ -16,9 +16,9 @@ use Rattle.tg_text.specs.declared.rule_text.RuleLine.{RuleLine}
 use Rattle.tg_text.specs.Limits.{most_rules}
 use Rattle.tg_text.specs.RuleText.{rules_text}
 use Rattle.tg_text.specs.Canonical.{canonical_text, in_name_order, line_of}
-use Rattle.tg_analysis.specs.Sharing.{InOneIsland}
+use Rattle.tg_islands.specs.Sharing.{InOneIsland}
 use Rattle.tg_analysis.specs.Derivations.{IsDerivation}
-use Rattle.tg_analysis.specs.Moves.{only}
+use Rattle.tg_islands.specs.Moves.{only}
 use Rattle.tg_analysis.specs.SetDerivations.{IsDerivationOfAll}
 use Rattle.tg_cuts.specs.Cuts.{IsTheCut}
 use Rattle.tg_reports.specs.Calls.{CommandWords, Case, Check, Apply, Islands, Share, Derive, Table, Run, Who, Reach, Verify, Cut}

@@ -19,7 +19,7 @@ use Rattle.tg_text.specs.Lines.{lines_of, words_of}
 use Rattle.tg_text.specs.Reading.{◌>>=◌}
 use Rattle.tg_text.specs.Spelling.{reply_words}
 use Rattle.tg_text.specs.Canonical.{line_of, canonical_text, in_name_order}
-use Rattle.tg_analysis.specs.Sharing.{InOneIsland}
+use Rattle.tg_islands.specs.Sharing.{InOneIsland}
 use Rattle.tg_analysis.specs.SetDerivations.{IsDerivationOfAll}
 use Rattle.tg_cuts.specs.Cuts.{IsTheCut, HasNoCut}
 use Rattle.tg_reports.specs.Calls.{CommandWords, Case, Check, Apply, Islands, Share, Derive, Table, Run, Who, Reach, Verify, Cut}

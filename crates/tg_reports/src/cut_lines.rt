@@ -10,8 +10,7 @@ use crate::inputs::{CutQuestion, cut_in};
 use crate::outcome::{Halt, Report};
 use crate::sharing::{append_rules, line};
 use std::alloc::{AllocError, Global};
-use tg_analysis::AskFault;
-use tg_cuts::least_cut;
+use tg_analysis::{AskFault, least_cut};
 use tg_graph::Rule;
 use tg_text::append_number;
 

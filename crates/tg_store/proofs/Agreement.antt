@@ -25,7 +25,7 @@ use Rattle.tg_graph.specs.Rules.{refusal_of, after, unknown, refused_if, not_hel
 use Rattle.tg_graph.specs.RuleLists.{AllAccepted, after_all, CanShare}
 use Rattle.tg_rows.proofs.Rows.{same_bytes}
 use Rattle.tg_graph.proofs.Same.{refusal-same, after-same}
-use Rattle.tg_analysis.proofs.NameTests.{same_refl}
+use Rattle.tg_islands.proofs.NameTests.{same_refl}
 use Rattle.tg_graph.specs.Limits.{most_vertices}
 use Rattle.tg_graph.specs.Drafts.{written_by}
 use Rattle.tg_store.specs.declared.answers.Answered.{Answered}

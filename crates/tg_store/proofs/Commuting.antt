@@ -21,7 +21,7 @@ use Rattle.tg_rows.specs.Rows.{Entries, is_known}
 use Rattle.tg_graph.specs.GraphOf.{graph_of}
 use Rattle.tg_graph.specs.Drafts.{Changes, laid_over, Fits, AreApart, written_by}
 use Rattle.tg_rows.proofs.Rows.{same_bytes}
-use Rattle.tg_analysis.proofs.NameTests.{same_refl}
+use Rattle.tg_islands.proofs.NameTests.{same_refl}
 use Rattle.tg_graph.proofs.DraftLaws.{apart_fit, holds-drafted, holds-left}
 use Rattle.tg_store.specs.declared.answers.Answered.{Answered}
 use Rattle.tg_store.specs.Answers.{AreAnswers, session_refusal, lack_of_room, or_else, after_step, after_steps}

@@ -19,7 +19,7 @@ use Rattle.tg_graph.specs.Limits.{most_vertices}
 use Rattle.tg_store.specs.declared.answers.Answered.{Answered}
 use Rattle.tg_store.specs.Answers.{AreAnswers, session_refusal, lack_of_room, or_else, after_step, after_steps}
 use Rattle.tg_store.specs.Touches.{writes, step_touches, reply_touches, touches, step_creates, creates, spoiler, name_count}
-use Rattle.tg_analysis.proofs.NameTests.{same_refl}
+use Rattle.tg_islands.proofs.NameTests.{same_refl}
 use Rattle.tg_store.proofs.Agreement.{Agree, AlikeAlong, agree_self, apart_find, untouched-steps, vertices-step, vertices-steps, keeps}
 
 -- ---- lists without repeats

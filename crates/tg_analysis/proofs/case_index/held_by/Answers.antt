@@ -5,7 +5,7 @@ use Rattle.tg_names.specs.declared.right_sets.Right.{Right}
 use Rattle.tg_analysis.specs.declared.held.Held.{Held}
 use Rattle.tg_analysis.specs.ByTarget.{Leads}
 use Rattle.tg_analysis.specs.Cases.{IsSaid}
-use Rattle.tg_analysis.proofs.ByTarget.{found}
+use Rattle.tg_islands.proofs.RowEnds.{found}
 use Rattle.tg_analysis.proofs.HeldEntries.{over-more, through}
 use Rattle.tg_analysis.proofs.case_index.held_by.Goals as goal
 

@@ -3,7 +3,7 @@ use Rattle.std.specs.Map.{keys_of}
 use Rattle.tg_graph.specs.GraphOf.{graph_of}
 use Rattle.tg_names.specs.Names.{Name}
 use Rattle.tg_analysis.specs.Searches.{Visits, AreUnmet, Meets}
-use Rattle.tg_analysis.proofs.Places.{place-known}
+use Rattle.tg_islands.proofs.Places.{place-known}
 use Rattle.tg_analysis.proofs.Rounds.{meets-none, meets-next, round-whole}
 use Rattle.tg_analysis.proofs.chains.go_round.Goals as goal
 

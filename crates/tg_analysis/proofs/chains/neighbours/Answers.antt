@@ -2,7 +2,8 @@ use Rattle.std.proofs.Common.{sym, ap, ◌∙◌, nat_eq}
 use Rattle.std.specs.List.{list_any}
 use Rattle.std.specs.Map.{keys_of}
 use Rattle.tg_graph.specs.GraphOf.{graph_of}
-use Rattle.tg_analysis.proofs.Rounds.{near-position, position-none}
+use Rattle.tg_analysis.proofs.Rounds.{near-position}
+use Rattle.tg_islands.proofs.Places.{position-none}
 use Rattle.tg_analysis.proofs.chains.neighbours.Goals as goal
 
 pub returns-in-Some : goal.returns-in-Some

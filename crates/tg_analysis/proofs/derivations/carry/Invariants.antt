@@ -1,6 +1,6 @@
 use Rattle.std.proofs.Common.{◌≡◌, take, drop}
 use Rattle.tg_graph.specs.GraphOf.{graph_of}
-use Rattle.tg_analysis.specs.Sharing.{IsChain}
+use Rattle.tg_islands.specs.Sharing.{IsChain}
 use Rattle.tg_analysis.specs.Derivations.{IsCarried, end_of}
 use Rattle.tg_analysis.proofs.derivations.carry.Given as goal
 

@@ -7,7 +7,7 @@ use Rattle.tg_graph.specs.RuleLists.{CanShare}
 use Rattle.tg_analysis.specs.declared.chains.Search.{Search}
 use Rattle.tg_analysis.specs.SetDerivations.{AddsPart}
 use Rattle.tg_analysis.proofs.Moved.{so_far_none}
-use Rattle.tg_analysis.proofs.NoOthers.{no_other}
+use Rattle.tg_islands.proofs.NoOthers.{no_other}
 use Rattle.tg_analysis.proofs.Parts.{parts_none, parts_skip, parts_next, parts_whole, not_all}
 use Rattle.tg_analysis.proofs.derivations.derive.Goals as goal
 use Rattle.tg_analysis.proofs.derivations.derive.Goals.{then-has+in_ok-last+in-Some, else-has}

@@ -2,7 +2,7 @@ use Rattle.std.proofs.Common.{◌≡◌, ℕ, ◌+◌, ◌<◌, ◌≤◌, true,
 use Rattle.tg_names.specs.Names.{helper_name}
 use Rattle.tg_graph.specs.Graphs.{has_vertex}
 use Rattle.tg_graph.specs.GraphOf.{graph_of}
-use Rattle.tg_analysis.proofs.Helpers.{used_next, helpers_within}
+use Rattle.tg_islands.proofs.Helpers.{used_next, helpers_within}
 use Rattle.tg_analysis.proofs.moves.free_helper.Goals as goal
 
 -- the helpers up to the one that was tried are in use

@@ -1,5 +1,6 @@
 use Rattle.std.proofs.Common.{sym, ◌∙◌, refl}
-use Rattle.tg_analysis.proofs.Reached.{label-named, label-more, label-none}
+use Rattle.tg_analysis.proofs.Reached.{label-more, label-none}
+use Rattle.tg_islands.proofs.RowEnds.{label-named}
 use Rattle.tg_analysis.proofs.reaching.add_edge.Goals as goal
 
 pub gain-requires-clause-rights : goal.gain-requires-clause-rights

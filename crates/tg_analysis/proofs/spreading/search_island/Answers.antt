@@ -8,7 +8,7 @@ use Rattle.tg_graph.proofs.Positions.{at-position}
 use Rattle.tg_analysis.specs.declared.spreading.Asked.{Asked}
 use Rattle.tg_analysis.specs.declared.spreading.Spread.{Spread}
 use Rattle.tg_analysis.specs.Spreading.{AreHeldInIsland, RunsOut}
-use Rattle.tg_analysis.proofs.Rounds.{position-none}
+use Rattle.tg_islands.proofs.Places.{position-none}
 use Rattle.tg_analysis.proofs.Spreads.{spread-begins, all_held}
 use Rattle.tg_analysis.proofs.spreading.search_island.Goals as goal
 

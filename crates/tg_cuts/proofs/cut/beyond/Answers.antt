@@ -4,7 +4,7 @@ use Rattle.tg_flow.specs.Courses.{is_in}
 use Rattle.tg_flow.specs.Filling.{IsEndless, IsFull}
 use Rattle.tg_flow.specs.Sides.{AreBeyond}
 use Rattle.tg_names.specs.Sets.{member}
-use Rattle.tg_analysis.specs.Moves.{take_and_grant}
+use Rattle.tg_islands.specs.Moves.{take_and_grant}
 use Rattle.tg_cuts.proofs.cut.beyond.Goals as goal
 
 pub returns-in_default : goal.returns-in_default

@@ -4,7 +4,7 @@ use Rattle.std.proofs.lemmas.Map.Entries.{length-keys_of}
 use Rattle.std.proofs.lemmas.Result.{err_from_is_err_and}
 use Rattle.tg_graph.specs.Limits.{most_vertices}
 use Rattle.tg_graph.specs.GraphOf.{graph_of}
-use Rattle.tg_analysis.specs.Questions.{IsDueFault}
+use Rattle.tg_islands.specs.Questions.{IsDueFault}
 use Rattle.tg_cuts.specs.Cuts.{cut_fault}
 use Rattle.tg_cuts.proofs.KeptEnds.{cut-unknown-x, cut-unknown-y, cut-unknown-end, cut-too-large, cut-no-fault}
 use Rattle.tg_cuts.proofs.cut.least_cut.Goals as goal

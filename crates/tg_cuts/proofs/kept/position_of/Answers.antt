@@ -1,7 +1,7 @@
 use Rattle.std.proofs.Common.{sym, ◌∙◌}
 use Rattle.std.specs.Map.{keys_of}
 use Rattle.tg_graph.proofs.Positions.{at-position}
-use Rattle.tg_analysis.proofs.Places.{place-known}
+use Rattle.tg_islands.proofs.Places.{place-known}
 use Rattle.tg_cuts.proofs.KeptEnds.{absent}
 use Rattle.tg_cuts.proofs.kept.position_of.Goals as goal
 

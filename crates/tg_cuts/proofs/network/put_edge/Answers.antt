@@ -1,5 +1,5 @@
 use Rattle.std.proofs.Common.{sym, ◌∙◌}
-use Rattle.tg_analysis.proofs.ByTarget.{end-within, is_read}
+use Rattle.tg_islands.proofs.RowEnds.{end-within, is_read}
 use Rattle.tg_cuts.proofs.FlowEdges.{row-there, edges-past, edges-idle, edges-next}
 use Rattle.tg_cuts.proofs.network.put_edge.Goals as goal
 

@@ -9,7 +9,7 @@ use Rattle.tg_graph.proofs.Positions.{at-position}
 use Rattle.tg_analysis.specs.declared.cases.Spot.{Spot}
 use Rattle.tg_analysis.specs.declared.held.Held.{Held}
 use Rattle.tg_analysis.specs.Cases.{IsCase, IsClaim, IsIndexed, IsSoonest, AreMembersFrom, CaseIndexed, StandsAt, StandsUnmarked, is_marked}
-use Rattle.tg_analysis.proofs.ByTarget.{found}
+use Rattle.tg_islands.proofs.RowEnds.{found}
 use Rattle.tg_analysis.proofs.CaseOrder.{IsFirstSpot, first-more}
 use Rattle.tg_analysis.proofs.FirstCases.{for-names, beyond-soonest, first-case, stands-once, stands-within}
 use Rattle.tg_analysis.proofs.LookedIslands.{first-of-each}

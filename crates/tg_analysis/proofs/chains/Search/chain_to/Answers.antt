@@ -3,7 +3,7 @@ use Rattle.std.proofs.lemmas.Option.{slice_get_within}
 use Rattle.std.specs.Map.{keys_of}
 use Rattle.tg_names.specs.Names.{Name}
 use Rattle.tg_graph.specs.GraphOf.{graph_of}
-use Rattle.tg_analysis.specs.Sharing.{HeldInIsland}
+use Rattle.tg_islands.specs.Sharing.{HeldInIsland}
 use Rattle.tg_analysis.specs.Searches.{IsWay}
 use Rattle.tg_analysis.proofs.Searched.{visit-key, none_unless, few-met, holder-none, holder-next, searched-to, searched-whole, searches-same, searches-then}
 use Rattle.tg_analysis.proofs.Ways.{backwards, way-is}

@@ -1,8 +1,10 @@
 use Rattle.std.proofs.Common.{◌≡◌, ◌<◌, ◌+◌, ◌++◌, ◌∷◌, [], length, take, get_or, arith, add-one, subst, sym, ap, ◌∙◌}
 use Rattle.std.proofs.Math.Seq.{take-suc}
-use Rattle.tg_analysis.specs.Linked.{neighbours}
-use Rattle.tg_analysis.specs.Flooding.{IsOneOf, Meets}
-use Rattle.tg_analysis.proofs.FloodSteps.{meets-more, item-one_of}
+use Rattle.tg_islands.specs.Linked.{neighbours}
+use Rattle.tg_analysis.specs.Flooding.{Meets}
+use Rattle.tg_islands.specs.Positions.{IsOneOf}
+use Rattle.tg_analysis.proofs.FloodSteps.{meets-more}
+use Rattle.tg_islands.proofs.OneOf.{item-one_of}
 use Rattle.tg_analysis.proofs.flooding.Flood.meet_neighbours.Goals as goal
 
 pub meet-requires : goal.meet-requires

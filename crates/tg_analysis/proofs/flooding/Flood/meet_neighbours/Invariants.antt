@@ -1,5 +1,5 @@
 use Rattle.std.proofs.Common.{take}
-use Rattle.tg_analysis.specs.Linked.{neighbours}
+use Rattle.tg_islands.specs.Linked.{neighbours}
 use Rattle.tg_analysis.specs.Flooding.{Meets}
 use Rattle.tg_analysis.proofs.flooding.Flood.meet_neighbours.Given as goal
 

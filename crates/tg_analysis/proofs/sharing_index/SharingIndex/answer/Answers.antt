@@ -3,9 +3,9 @@ use Rattle.std.specs.Map.{keys_of}
 use Rattle.std.proofs.lemmas.Map.Entries.{length-keys_of}
 use Rattle.tg_graph.specs.GraphOf.{graph_of}
 use Rattle.tg_graph.proofs.Positions.{at-position}
-use Rattle.tg_analysis.specs.Numbering.{AreIslands}
+use Rattle.tg_islands.specs.Numbering.{AreIslands}
 use Rattle.tg_analysis.specs.ByTarget.{AreListed, IsIndexOf}
-use Rattle.tg_analysis.proofs.Rounds.{position-none}
+use Rattle.tg_islands.proofs.Places.{position-none}
 use Rattle.tg_analysis.proofs.ByTarget.{numbered, numbered-none, index-exact, scan-exact}
 use Rattle.tg_analysis.proofs.sharing_index.SharingIndex.answer.Goals as goal
 

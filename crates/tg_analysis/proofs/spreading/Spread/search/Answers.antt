@@ -4,7 +4,7 @@ use Rattle.std.proofs.lemmas.Map.Entries.{length-keys_of}
 use Rattle.tg_names.specs.declared.right_sets.Right.{Right}
 use Rattle.tg_names.specs.Sets.{member}
 use Rattle.tg_graph.specs.GraphOf.{graph_of}
-use Rattle.tg_analysis.specs.Sharing.{HeldInIsland}
+use Rattle.tg_islands.specs.Sharing.{HeldInIsland}
 use Rattle.tg_analysis.proofs.Spreads.{all_held, then_none_missing, none_among, spread-ends}
 use Rattle.tg_analysis.proofs.spreading.Spread.search.Goals as goal
 

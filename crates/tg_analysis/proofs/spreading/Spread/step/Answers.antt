@@ -1,7 +1,7 @@
 use Rattle.std.proofs.Common.{◌+◌, refl, sym, subst}
 use Rattle.tg_analysis.specs.declared.spreading.Spread.{Spread}
 use Rattle.tg_analysis.specs.Spreading.{IsMissing, IsSpread}
-use Rattle.tg_analysis.proofs.Linked.{row_there}
+use Rattle.tg_islands.proofs.Linked.{row_there}
 use Rattle.tg_analysis.proofs.Spreads.{spread-takes, still_missing, holds_no_other, spread-narrows, spread-follows, follows_back, follows_grows, follows_missing, follows_followed}
 use Rattle.tg_analysis.proofs.spreading.Spread.step.Goals as goal
 

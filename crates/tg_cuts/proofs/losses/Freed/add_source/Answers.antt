@@ -1,7 +1,7 @@
 use Rattle.std.proofs.Common.{sym, ◌∙◌}
 use Rattle.std.specs.Map.{keys_of}
 use Rattle.tg_graph.proofs.Positions.{at-position}
-use Rattle.tg_analysis.proofs.Rounds.{position-none}
+use Rattle.tg_islands.proofs.Places.{position-none}
 use Rattle.tg_cuts.proofs.losses.Freed.add_source.Goals as goal
 
 pub unreachable-requires : goal.unreachable-requires

@@ -1,6 +1,5 @@
 use Rattle.std.proofs.Common.{Some, sym, ap, ◌∙◌}
-use Rattle.tg_analysis.proofs.ByTarget.{end-within}
-use Rattle.tg_analysis.proofs.Reached.{label-named}
+use Rattle.tg_islands.proofs.RowEnds.{end-within, label-named}
 use Rattle.tg_cuts.proofs.FlowEdges.{name-there}
 use Rattle.tg_cuts.proofs.LossRules.{loss-by-name, takes-past, takes-nothing, takes-loss}
 use Rattle.tg_cuts.proofs.losses.Freed.rule_at.Goals as goal

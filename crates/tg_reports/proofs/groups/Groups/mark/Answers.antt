@@ -2,7 +2,7 @@ use Rattle.std.proofs.Common.{◌<◌, ◌||◌, length, sym, ap, subst, ◌∙�
 use Rattle.std.proofs.lemmas.Option.{slice_get_within}
 use Rattle.tg_graph.proofs.Positions.{at-position}
 use Rattle.tg_text.specs.declared.policy_text.Operand.{Operand}
-use Rattle.tg_analysis.proofs.ByTarget.{found}
+use Rattle.tg_islands.proofs.RowEnds.{found}
 use Rattle.tg_reports.specs.Policies.{stands_for}
 use Rattle.tg_reports.specs.PolicyParts.{IsNamed, is_marked_name, membership}
 use Rattle.tg_reports.proofs.GroupLaws.{marks-one}

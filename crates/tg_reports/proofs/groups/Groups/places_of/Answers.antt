@@ -5,7 +5,7 @@ use Rattle.tg_names.specs.Names.{Name}
 use Rattle.tg_text.specs.Canonical.{name_cmp}
 use Rattle.tg_text.specs.declared.policy_text.Operand.{Operand}
 use Rattle.tg_analysis.specs.Cases.{StandsAt}
-use Rattle.tg_analysis.proofs.ByTarget.{found}
+use Rattle.tg_islands.proofs.RowEnds.{found}
 use Rattle.tg_reports.specs.Policies.{stands_for}
 use Rattle.tg_reports.specs.PolicyParts.{IsNamed, is_marked_name, membership}
 use Rattle.tg_reports.proofs.GroupLaws.{of-vertex, of-marks}

@@ -1,5 +1,0 @@
-use Rattle.tg_analysis.specs.JoinedSets.{NumbersUpTo}
-use Rattle.tg_analysis.proofs.joining.numbered.Given as goal
-
-abbrev pub invariant-loop-position : goal.invariant-loop-position
-invariant-loop-position l = NumbersUpTo l.sets l.position l.numbers

@@ -1,5 +1,0 @@
-use Rattle.tg_analysis.proofs.Floods.{flood_has_island}
-use Rattle.tg_analysis.proofs.laws.flood_has_island.Goals as goal
-
-pub returns : goal.returns
-returns c = flood_has_island

@@ -1,5 +1,0 @@
-use Rattle.tg_analysis.specs.Linked.{LinksUpTo}
-use Rattle.tg_analysis.proofs.links.Links.add_row.Given as goal
-
-abbrev pub invariant-loop-place : goal.invariant-loop-place
-invariant-loop-place l = LinksUpTo l.graph l.self l.position l.place

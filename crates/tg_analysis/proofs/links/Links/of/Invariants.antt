@@ -1,5 +1,0 @@
-use Rattle.tg_analysis.specs.Linked.{LinksUpTo}
-use Rattle.tg_analysis.proofs.links.Links.of.Given as goal
-
-abbrev pub invariant-loop-position : goal.invariant-loop-position
-invariant-loop-position l = LinksUpTo l.graph l.links l.position 0
