@@ -5,8 +5,8 @@ use Rattle.officer.specs.declared.fault.Cause.{Cause}
 use Rattle.officer.specs.declared.fault.Cause.TheVariants.{Graph, Second}
 use Rattle.officer.specs.declared.fetch.FetchFault.{FetchFault}
 use Rattle.officer.specs.declared.surroundings.WordsFault.{WordsFault}
-use Rattle.tg_reports.specs.Calls.{CallWords, CommandWords, call_of, command_of}
-use Rattle.tg_reports.specs.Readings.{ReportText}
+use Rattle.tg_inputs.specs.Calls.{CallWords, CommandWords, call_of, command_of}
+use Rattle.tg_inputs.specs.Readings.{ReportText}
 use Rattle.officer.specs.Dealings.{Dealing, Words, File, Adds, Deals, text_or, and_text, GoesOn, ReadsBoth, Reads, IsReportOf, Prints, AnswersCall, AnswersForm, AnswersWords, IsRun}
 
 -- dealings and then more

@@ -6,8 +6,8 @@ use Rattle.officer.specs.declared.fault.Cause.TheVariants.{Graph, Second}
 use Rattle.officer.specs.declared.deliver.DeliverFault.{DeliverFault}
 use Rattle.officer.specs.declared.fetch.FetchFault.{FetchFault}
 use Rattle.officer.specs.declared.surroundings.WordsFault.{WordsFault}
-use Rattle.tg_reports.specs.Calls.{CallWords, Input as input, File as file, Files as files, Race as race, call_of, command_of}
-use Rattle.tg_reports.specs.Readings.{ReportText}
+use Rattle.tg_inputs.specs.Calls.{CallWords, Input as input, File as file, Files as files, Race as race, call_of, command_of}
+use Rattle.tg_inputs.specs.Readings.{ReportText}
 use Rattle.officer.specs.Dealings.{Dealing, Words, Input, File, Print, text_or, and_text, GoesOn, Reads, end_of_print, Answers, AnswersForm, AnswersWords}
 use Rattle.officer.specs.RunLaws.{texts_given, HasPrinted, RunsPrintReports}
 

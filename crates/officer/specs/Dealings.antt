@@ -8,10 +8,10 @@ use Rattle.officer.specs.declared.deliver.DeliverFault.{DeliverFault}
 use Rattle.officer.specs.declared.fetch.FetchFault.{FetchFault}
 use Rattle.officer.specs.declared.surroundings.WordsFault.{WordsFault}
 use Rattle.officer.specs.Faults.{cause_of_fetch, cause_of_words}
-use Rattle.tg_reports.specs.Readings.{ReportText}
-use Rattle.tg_reports.specs.Calls.{CallWords, Input as input, File as file, Files as files, Race as race, CommandWords, call_of, command_of}
+use Rattle.tg_inputs.specs.Readings.{ReportText}
+use Rattle.tg_inputs.specs.Calls.{CallWords, Input as input, File as file, Files as files, Race as race, CommandWords, call_of, command_of}
 use Rattle.tg_reports.specs.Reports.{IsReport}
-use Rattle.tg_reports.specs.Races.{IsRaceReport}
+use Rattle.tg_plays.specs.Races.{IsRaceReport}
 
 -- one question to the surroundings, and its answer
 pub data Dealing : Type 0 where

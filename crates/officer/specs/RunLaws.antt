@@ -1,7 +1,7 @@
 -- What a run of the program comes to.
 use Rattle.std.specs.Prelude.{◌≡◌, ℕ, List, [], ◌∷◌, ◌++◌, Some, Ok}
-use Rattle.tg_reports.specs.Calls.{CallWords, Input as input, File as file, Files as files, Race as race, call_of, command_of}
-use Rattle.tg_reports.specs.Readings.{ReportText}
+use Rattle.tg_inputs.specs.Calls.{CallWords, Input as input, File as file, Files as files, Race as race, call_of, command_of}
+use Rattle.tg_inputs.specs.Readings.{ReportText}
 use Rattle.officer.specs.Dealings.{Dealing, Words, Input, File, Print, IsReportOf, IsRun}
 
 -- the texts of a call are read, the graph first, and are there

@@ -1,8 +1,8 @@
 //! What the program does for its command line.
 ghost use Rattle.std.specs.Prelude.{◌≡◌, [], IfOk, Ok, map, string_bytes};
-ghost use Rattle.tg_reports.specs.Calls.{call_words, command_of};
+ghost use Rattle.tg_inputs.specs.Calls.{call_words, command_of};
 ghost use Rattle.officer.specs.Dealings.{Deals, Reads, ReadsBoth, Prints, IsReportOf, AnswersCall, IsRun, and_text, bytes_of, text_or, seen};
-ghost use Rattle.tg_reports.specs.Outcomes.{report_text};
+ghost use Rattle.tg_inputs.specs.Outcomes.{report_text};
 
 use crate::deliver::DeliverFault;
 use crate::fault::Cause;

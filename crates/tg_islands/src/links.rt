@@ -1,5 +1,5 @@
 //! Which vertices of a graph are linked.
-ghost use Rattle.std.specs.Prelude.{◌≡◌, ◌<◌, ◌+◌, ◌++◌, ◌∷◌, [], IfOk, IfSome, OnOk, length, replicate};
+ghost use Rattle.std.specs.Prelude.{◌≡◌, ◌<◌, ◌+◌, ◌++◌, ◌∷◌, [], IfOk, IfSome, OnErr, OnOk, length, replicate};
 ghost use Rattle.std.specs.Map.{keys_of};
 ghost use Rattle.tg_graph.specs.GraphOf.{graph_of};
 ghost use Rattle.tg_rows.specs.Rows.{row_number};
@@ -86,12 +86,13 @@ impl Links {
         Ok(Links { near })
     }
 
-    /// Makes one position a neighbour of another.
+    /// Makes one position, which has to be below `len`, a neighbour of another.
     ///
-    /// The one error is want of memory.
+    /// The error is want of memory, or a neighbour of 2^32 or more: the links stay as they were.
     pub fn add(&mut self, position: usize, neighbour: usize) -> Result<(), AllocError>
         requires { position < length self.old }
-        ensures { OnOk result (AddsNeighbour self.old self.new position neighbour) }
+        ensures added { OnOk result (AddsNeighbour self.old self.new position neighbour) }
+        ensures kept { OnErr result (self.new ≡ self.old) }
     {
         let row = &mut self.near[position];
         row.add(neighbour)?;

@@ -1,5 +1,5 @@
 //! Lists of positions.
-ghost use Rattle.std.specs.Prelude.{◌≡◌, ◌<◌, ◌≤◌, ◌+◌, ◌++◌, ◌∷◌, [], IfOk, OnOk, length};
+ghost use Rattle.std.specs.Prelude.{◌≡◌, ◌<◌, ◌≤◌, ◌+◌, ◌++◌, ◌∷◌, [], IfOk, OnErr, OnOk, length};
 
 use std::alloc::{AllocError, Global};
 use std::marker::Model;
@@ -117,10 +117,11 @@ impl Positions {
 
     /// Adds a position behind the others.
     ///
-    /// The error is want of memory, or a position of 2^32 or more.
+    /// The error is want of memory, or a position of 2^32 or more: the positions stay as they were.
     #[inline(always)]
     pub fn add(&mut self, position: usize) -> Result<(), AllocError>
-        ensures { OnOk result (self.new ≡ self.old ++ position ∷ []) }
+        ensures added { OnOk result (self.new ≡ self.old ++ position ∷ []) }
+        ensures kept { OnErr result (self.new ≡ self.old) }
     {
         let Ok(position) = u32::try_from(position) else {
             return Err(AllocError);
@@ -139,9 +140,10 @@ impl Positions {
 
     /// Adds positions behind the others.
     ///
-    /// The one error is want of memory.
+    /// The one error is want of memory: the positions stay as they were.
     pub fn add_all(&mut self, positions: &[u32]) -> Result<(), AllocError>
-        ensures { OnOk result (self.new ≡ self.old ++ positions.now) }
+        ensures added { OnOk result (self.new ≡ self.old ++ positions.now) }
+        ensures kept { OnErr result (self.new ≡ self.old) }
     {
         match &mut self.listed {
             Listed::Few(few) if positions.len() <= FEW_POSITIONS - few.len() => {

@@ -18,7 +18,7 @@ use Rattle.tg_text.proofs.RuleBack.{length-more}
 use Rattle.tg_text.proofs.RulesBack.{rules-read, skipped-line}
 use Rattle.tg_cuts.proofs.Removed.{cuts-accepted}
 use Rattle.tg_cuts.proofs.OneCut.{cuts-short}
-use Rattle.tg_reports.specs.Derived.{cut_report}
+use Rattle.tg_reports.specs.Reports.{cut_report}
 use Rattle.tg_reports.specs.ReportLaws.{CutsMakeItNo, CutsFit}
 use Rattle.tg_reports.proofs.DerivedTexts.{are_rules, same_rules, all_played}
 use Rattle.tg_reports.proofs.CutReports.{asked_read}

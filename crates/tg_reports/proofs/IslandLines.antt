@@ -13,7 +13,7 @@ use Rattle.tg_text.specs.Spelling.{spaced}
 use Rattle.tg_text.specs.Canonical.{in_name_order, line_of}
 use Rattle.tg_text.proofs.NameOrder.{among, among-in_order, absent, same_name-refl, Strict, strict-in_order}
 use Rattle.tg_islands.proofs.OneIsland.{island_refl, island_sym, island_trans, starts}
-use Rattle.tg_reports.specs.Readings.{ReportText}
+use Rattle.tg_inputs.specs.Readings.{ReportText}
 use Rattle.tg_reports.specs.Reports.{TellsIslands, island_line}
 use Rattle.tg_reports.specs.ReportLaws.{IsIsland, AreIslandsOf, IslandsAreLines}
 use Rattle.tg_reports.proofs.OneReport.{same_truth, either_true, filter_same}

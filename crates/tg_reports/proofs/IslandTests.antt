@@ -12,7 +12,7 @@ use Rattle.tg_text.proofs.NameOrder.{among, among-in_order, same_name-refl}
 use Rattle.tg_islands.specs.Numbering.{AreIslands, number_of}
 use Rattle.tg_islands.proofs.Places.{place_of, position-at}
 use Rattle.tg_reports.specs.Reports.{TellsIslands, islands_text, island_line}
-use Rattle.tg_reports.specs.Outcomes.{with_number, numbered_line, numbered_text}
+use Rattle.tg_reports.specs.ReportParts.{with_number, numbered_line, numbered_text}
 use Rattle.tg_reports.proofs.OneReport.{either_true}
 
 -- the vertices have one number

@@ -1,11 +1,5 @@
-pub mod Parting
 pub mod IslandTests
-pub mod RaceTurns
-pub mod RaceHistory
-pub mod RaceReports
 pub mod ReportLaws
-pub mod ActLemmas
-pub mod ScriptLemmas
 pub mod DerivedTexts
 pub mod MadeReports
 pub mod OneReport
@@ -14,13 +8,7 @@ pub mod WhoTests
 pub mod ReachLetters
 pub mod WhoLaws
 pub mod IslandLines
-pub mod OnePlay
-pub mod RulesPlayed
-pub mod GroupLaws
-pub mod VerdictLaws
-pub mod ToldLines
-pub mod FirstBreaks
-pub mod OneVerified
+pub mod SameLines
 pub mod ReadGraphs
 pub mod CutReports
 pub mod CutTexts

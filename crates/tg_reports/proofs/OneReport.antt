@@ -9,17 +9,18 @@ use Rattle.tg_graph.specs.Graphs.{ProtectionGraph, has_vertex}
 use Rattle.tg_names.proofs.Sets.{same_set}
 use Rattle.tg_text.specs.Canonical.{in_name_order}
 use Rattle.tg_text.proofs.NameOrder.{among, among-in_order, same_name-refl}
-use Rattle.tg_reports.specs.Calls.{Case, Check, Apply, Islands, Share, Derive, Table, Run, Who, Reach, Verify, Cut}
-use Rattle.tg_reports.specs.Readings.{ReportText, Question, TableQuestion, WhoQuestion, ReachQuestion, PolicyOver, graph_in, question_in, table_in, who_in, reach_in, policy_lines_in, policy_in, cut_in}
-use Rattle.tg_reports.specs.Reports.{IsFor, Is, AreTableLines, digit_for, table_text, IsAnswer, IsDerived, TellsIslands, AreIslandLines, island_line, islands_text, AreWhoLines, name_line, who_text, AreReachLines, IsReached, reach_line, reach_text, check_report, apply_report, graph_part, rules_part}
-use Rattle.tg_reports.specs.Runs.{playing_in, IsPlayed}
-use Rattle.tg_reports.specs.Policies.{IsVerified}
+use Rattle.tg_inputs.specs.Calls.{Case, Check, Apply, Islands, Share, Derive, Table, Run, Who, Reach, Verify, Cut}
+use Rattle.tg_inputs.specs.Readings.{ReportText, Question, TableQuestion, WhoQuestion, ReachQuestion, PolicyOver, graph_in, question_in, table_in, who_in, reach_in, policy_lines_in, policy_in, cut_in, IsFor, Is}
+use Rattle.tg_reports.specs.Reports.{AreTableLines, digit_for, table_text, IsAnswer, IsDerived, TellsIslands, AreIslandLines, island_line, islands_text, AreWhoLines, name_line, who_text, AreReachLines, IsReached, reach_line, reach_text, check_report, apply_report}
+use Rattle.tg_inputs.specs.Parts.{graph_part, rules_part}
+use Rattle.tg_plays.specs.Runs.{playing_in, IsPlayed}
+use Rattle.tg_policies.specs.Policies.{IsVerified}
 use Rattle.tg_reports.specs.ReportLaws.{FindsRules, HasRules, ThereIsOneReport}
 use Rattle.tg_text.specs.Reading.{◌>>=◌}
 use Rattle.tg_text.proofs.Steps.{bind_ok}
-use Rattle.tg_reports.proofs.OnePlay.{played_one}
+use Rattle.tg_plays.proofs.OnePlay.{played_one}
 use Rattle.tg_reports.proofs.CutReports.{asked_read, for_cut}
-use Rattle.tg_reports.proofs.OneVerified.{verified_one, verified_same}
+use Rattle.tg_policies.proofs.OneVerified.{verified_one, verified_same}
 
 -- ---- tests that agree
 pub same_truth : (b c : Bool) → (b ≡ true → c ≡ true) → (c ≡ true → b ≡ true) → b ≡ c

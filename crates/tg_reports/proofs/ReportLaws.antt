@@ -4,7 +4,7 @@ use Rattle.tg_graph.specs.declared.rules.Refusal.{Refusal}
 use Rattle.tg_graph.specs.Graphs.{ProtectionGraph}
 use Rattle.tg_graph.specs.Rules.{refusal_of, after}
 use Rattle.tg_text.specs.declared.rule_text.RuleLine.{RuleLine}
-use Rattle.tg_reports.specs.Reports.{played, played_first}
+use Rattle.tg_inputs.specs.Replies.{played, played_first}
 use Rattle.tg_reports.specs.ReportLaws.{rules_of, StopsAtRefusal, RulesStopAtRefusal}
 
 first_rule : (g : ProtectionGraph) (r : RuleLine) (rs : List RuleLine) (o : Option Refusal) → refusal_of g r.rule ≡ o → StopsAtRefusal (after g r.rule) (rules_of rs) (played (after g r.rule) rs) → StopsAtRefusal g (rules_of (r ∷ rs)) (played_first g r.line o (played (after g r.rule) rs))

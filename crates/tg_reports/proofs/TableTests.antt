@@ -8,7 +8,7 @@ use Rattle.tg_graph.specs.Graphs.{ProtectionGraph}
 use Rattle.tg_analysis.specs.Tables.{Table, table_cell, IsPairTable}
 use Rattle.tg_islands.proofs.Places.{place_of, position-at}
 use Rattle.tg_reports.specs.Reports.{TellsSharing, digit_for, table_text}
-use Rattle.tg_reports.specs.Outcomes.{place_in, placed, digit_at, placed_line, placed_text}
+use Rattle.tg_reports.specs.ReportParts.{place_in, placed, digit_at, placed_line, placed_text}
 
 -- whether the cell of two vertices says yes
 abbrev pub says_yes : List Name → Table → Name → Name → Bool

@@ -11,7 +11,7 @@ use Rattle.tg_names.proofs.Sets.{member-where, named-where}
 use Rattle.tg_text.specs.Canonical.{in_name_order}
 use Rattle.tg_text.proofs.NameOrder.{among, among-in_order}
 use Rattle.tg_analysis.proofs.OneRight.{the_one, as_set}
-use Rattle.tg_reports.specs.Readings.{ReportText}
+use Rattle.tg_inputs.specs.Readings.{ReportText}
 use Rattle.tg_reports.specs.Reports.{TellsSharing, IsReached}
 use Rattle.tg_reports.specs.ReportLaws.{WhoIsAColumn, ReachIsARow}
 use Rattle.tg_reports.proofs.OneReport.{same_truth, names_same, sets_same, one_set}

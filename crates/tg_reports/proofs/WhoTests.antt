@@ -11,7 +11,7 @@ use Rattle.tg_graph.specs.Graphs.{ProtectionGraph}
 use Rattle.tg_analysis.specs.Reaching.{TellWho, TellReach}
 use Rattle.tg_islands.proofs.Places.{place_of, position-at}
 use Rattle.tg_reports.specs.Reports.{TellsWho, IsReached, TellsReach}
-use Rattle.tg_reports.specs.Outcomes.{is_marked_name, set_of_name}
+use Rattle.tg_reports.specs.ReportParts.{is_marked_name, set_of_name}
 
 marked : (o : Option Bool) → unwrap_or o false ≡ true → o ≡ Some true
 marked None h = absurd (false≢true h)

@@ -1,11 +1,3 @@
-pub mod Readings
-pub mod Calls
-pub mod Runs
-pub mod Derived
-pub mod Policies
 pub mod Reports
-pub mod Outcomes
-pub mod PolicyParts
-pub mod Races
-pub mod RaceParts
+pub mod ReportParts
 pub mod ReportLaws

@@ -21,10 +21,11 @@ use Rattle.tg_analysis.specs.Derivations.{IsDerivation}
 use Rattle.tg_islands.specs.Moves.{only}
 use Rattle.tg_analysis.specs.SetDerivations.{IsDerivationOfAll}
 use Rattle.tg_cuts.specs.Cuts.{IsTheCut}
-use Rattle.tg_reports.specs.Calls.{CommandWords, Case, Check, Apply, Islands, Share, Derive, Table, Run, Who, Reach, Verify, Cut}
-use Rattle.tg_reports.specs.Readings.{Question, ReportText, CutQuestion, graph_in, question_in, cut_in}
-use Rattle.tg_reports.specs.Derived.{derivation_report, cut_report}
-use Rattle.tg_reports.specs.Reports.{Played, played, check_report, AreIslandLines, TellsSharing, AreWhoLines, who_text, AreReachLines, reach_text, IsReport}
+use Rattle.tg_inputs.specs.Calls.{CommandWords, Case, Check, Apply, Islands, Share, Derive, Table, Run, Who, Reach, Verify, Cut}
+use Rattle.tg_inputs.specs.Readings.{Question, ReportText, CutQuestion, graph_in, question_in, cut_in}
+use Rattle.tg_policies.specs.Derived.{derivation_report}
+use Rattle.tg_reports.specs.Reports.{cut_report, check_report, AreIslandLines, TellsSharing, AreWhoLines, who_text, AreReachLines, reach_text, IsReport}
+use Rattle.tg_inputs.specs.Replies.{Played, played}
 
 abbrev pub rules_of : List RuleLine → List Rule
 rules_of lines = map (λ line. line.rule) lines

@@ -1,54 +1,27 @@
 -- Reports: the bytes and the status that a command gives for its texts.
-use Rattle.std.specs.Prelude.{◌≡◌, ◌⊎◌, ◌↔◌, IsTrue, filter, ℕ, nat_le, Bool, true, false, ◌&&◌, List, [], ◌∷◌, ◌++◌, map, length, codes, bytes_eq, decimal, Option, Some, None, Result, Ok, Err, if◌then◌else◌}
-use Rattle.std.specs.List.{flat_map, before_first, after_first}
+use Rattle.std.specs.Prelude.{◌≡◌, ◌⊎◌, ◌↔◌, IsTrue, filter, ℕ, Bool, true, List, [], ◌∷◌, ◌++◌, map, length, codes, decimal, Result, Ok, if◌then◌else◌}
+use Rattle.std.specs.List.{flat_map}
 use Rattle.tg_names.specs.declared.right_sets.Right.{Right}
 use Rattle.tg_names.specs.declared.right_sets.Rights.{Rights}
-use Rattle.tg_graph.specs.declared.rules.Refusal.{Refusal}
-use Rattle.tg_graph.specs.declared.session.Reply.{Reply}
-use Rattle.tg_graph.specs.declared.session.Reply.TheVariants.{Done, Refused}
 use Rattle.tg_graph.specs.declared.rules.Rule.{Rule}
 use Rattle.tg_names.specs.Sets.{IsNamed, is_empty_set, member}
 use Rattle.tg_names.specs.Letters.{letters_of}
 use Rattle.tg_names.specs.Names.{Name, same_name}
 use Rattle.tg_graph.specs.Graphs.{ProtectionGraph, has_vertex}
 use Rattle.tg_graph.specs.RuleLists.{CanShare, CanShareAll}
-use Rattle.tg_graph.specs.Rules.{refusal_of, after}
-use Rattle.tg_text.specs.Limits.{most_line_bytes}
-use Rattle.tg_text.specs.declared.rule_text.RuleLine.{RuleLine}
-use Rattle.tg_text.specs.Lines.{lines_of, words_of}
 use Rattle.tg_text.specs.Reading.{◌>>=◌}
-use Rattle.tg_text.specs.Spelling.{reply_words}
 use Rattle.tg_text.specs.Canonical.{line_of, canonical_text, in_name_order}
+use Rattle.tg_text.specs.RoundTrips.{lines_of_rules}
 use Rattle.tg_islands.specs.Sharing.{InOneIsland}
 use Rattle.tg_analysis.specs.SetDerivations.{IsDerivationOfAll}
 use Rattle.tg_cuts.specs.Cuts.{IsTheCut, HasNoCut}
-use Rattle.tg_reports.specs.Calls.{CommandWords, Case, Check, Apply, Islands, Share, Derive, Table, Run, Who, Reach, Verify, Cut}
-use Rattle.tg_reports.specs.Readings.{ReportText, graph_in, rules_in, Question, question_in, TableQuestion, table_in, WhoQuestion, who_in, ReachQuestion, reach_in, CutQuestion, cut_in, policy_in}
-use Rattle.tg_reports.specs.Derived.{derivation_report, cut_report}
-use Rattle.tg_reports.specs.Policies.{IsVerified}
-use Rattle.tg_reports.specs.Runs.{playing_in, IsPlayed}
-
--- the line of a reply, after the number of the rule's own line
-abbrev pub reply_line : ℕ → Reply → List ℕ
-reply_line n reply = line_of (decimal n ∷ reply_words reply)
-
--- what rules do in turn, up to the first that is refused
-pub record Played : Type 0 where
-  pub replies : List ℕ
-  pub end : ProtectionGraph
-  pub status : ℕ
-
--- an accepted rule comes first
-abbrev pub onto_played : List ℕ → Played → Played
-onto_played reply rest = record { replies = reply ++ rest.replies; end = rest.end; status = rest.status }
-
-abbrev pub played_first : ProtectionGraph → ℕ → Option Refusal → Played → Played
-played_first g n None rest = onto_played (reply_line n Done) rest
-played_first g n (Some refusal) rest = record { replies = reply_line n (Refused refusal); end = g; status = 1 }
-
-abbrev pub played : ProtectionGraph → List RuleLine → Played
-played g [] = record { replies = []; end = g; status = 0 }
-played g (r ∷ rs) = played_first g r.line (refusal_of g r.rule) (played (after g r.rule) rs)
+use Rattle.tg_inputs.specs.Calls.{CommandWords, Case, Check, Apply, Islands, Share, Derive, Table, Run, Who, Reach, Verify, Cut}
+use Rattle.tg_inputs.specs.Readings.{ReportText, graph_in, rules_in, Question, question_in, TableQuestion, table_in, WhoQuestion, who_in, ReachQuestion, reach_in, CutQuestion, cut_in, policy_in, IsFor, Is}
+use Rattle.tg_inputs.specs.Replies.{Played, played}
+use Rattle.tg_inputs.specs.Parts.{graph_part, rules_part}
+use Rattle.tg_policies.specs.Derived.{derivation_report}
+use Rattle.tg_policies.specs.Policies.{IsVerified}
+use Rattle.tg_plays.specs.Runs.{playing_in, IsPlayed}
 
 -- the replies, and the graph as it stands
 abbrev pub played_report : Played → ReportText
@@ -64,28 +37,6 @@ apply_report first second = do
   g ← graph_in first
   rules ← rules_in second
   Ok (played_report (played g rules))
-
--- whether these words are one alone
-abbrev pub is_alone : List ℕ → List (List ℕ) → Bool
-is_alone word [] = false
-is_alone word (w ∷ []) = bytes_eq w word
-is_alone word (w ∷ v ∷ vs) = false
-
--- the line that stands between a graph and rules
-abbrev pub parts_texts : List ℕ → Bool
-parts_texts line = nat_le (length line) most_line_bytes && is_alone (codes "rules") (words_of line)
-
--- the lines, each with a line feed
-abbrev pub text_of : List (List ℕ) → List ℕ
-text_of lines = flat_map (λ line. line ++ 10 ∷ []) lines
-
--- the lines before the first that stands between a graph and rules
-abbrev pub graph_part : List ℕ → List ℕ
-graph_part input = text_of (before_first parts_texts (lines_of input))
-
--- the lines after it
-abbrev pub rules_part : List ℕ → List ℕ
-rules_part input = text_of (after_first parts_texts (lines_of input))
 
 -- one line of words
 abbrev pub says : List (List ℕ) → ReportText
@@ -177,6 +128,10 @@ abbrev pub AreReachLines : ReachQuestion → ReportText → Type 0
 AreReachLines q report =
     (reached : Name → Rights) × TellsReach q.graph q.x reached × (report ≡ record { bytes = reach_text reached (in_name_order q.graph.vertices); status = 0 })
 
+-- the rules of a cut as a text of rules: how many edges lose rights, and what each loses
+abbrev pub cut_report : List Rule → ReportText
+cut_report rules = record { bytes = line_of (codes "#" ∷ codes "cut" ∷ decimal (length rules) ∷ []) ++ lines_of_rules rules; status = 0 }
+
 -- the kept edges leave no cut
 abbrev pub no_cut_report : ReportText
 no_cut_report = record { bytes = line_of (codes "#" ∷ codes "none" ∷ []); status = 1 }
@@ -187,14 +142,6 @@ IsCut q report =
     ((CanShare q.graph q.right q.x q.y → ⊥) × (report ≡ says (codes "#" ∷ codes "no" ∷ [])))
     ⊎ ((HasNoCut q.graph q.right q.x q.y q.kept × (report ≡ no_cut_report))
     ⊎ ((cut : List Rule) × CanShare q.graph q.right q.x q.y × IsTheCut q.graph q.right q.x q.y q.kept cut × (report ≡ cut_report cut)))
-
--- the report of a fault, or one of which the fact holds
-abbrev pub IsFor : {A : Type 0} → (A → ReportText → Type 0) → Result A ReportText → ReportText → Type 0
-IsFor P (Ok a) report = P a report
-IsFor P (Err fault) report = report ≡ fault
-
-abbrev pub Is : ReportText → ReportText → Type 0
-Is expected report = report ≡ expected
 
 -- the report of a command for its texts
 abbrev pub IsReport : CommandWords → List ℕ → List ℕ → ReportText → Type 0

@@ -1,17 +1,17 @@
 //! Which rights have to go, as rules.
 ghost use Rattle.std.specs.Prelude.{◌≡◌, IfOk, MatchOption, map};
 ghost use Rattle.tg_cuts.specs.Cuts.{IsTheCut, HasNoCut};
-ghost use Rattle.tg_reports.specs.Readings.{cut_in};
-ghost use Rattle.tg_reports.specs.Reports.{IsFor, IsCut, no_cut_report};
-ghost use Rattle.tg_reports.specs.Derived.{cut_report};
-ghost use Rattle.tg_reports.specs.Outcomes.{Makes, report_text, cut_question_of, cut_text, IsCuttable};
+ghost use Rattle.tg_inputs.specs.Readings.{cut_in, IsFor};
+ghost use Rattle.tg_reports.specs.Reports.{IsCut, no_cut_report, cut_report};
+ghost use Rattle.tg_inputs.specs.Outcomes.{Makes, report_text, cut_question_of, IsCuttable};
+ghost use Rattle.tg_reports.specs.ReportParts.{cut_text};
 
-use crate::inputs::{CutQuestion, cut_in};
-use crate::outcome::{Halt, Report};
-use crate::sharing::{append_rules, line};
+use crate::sharing::line;
 use std::alloc::{AllocError, Global};
 use tg_analysis::{AskFault, least_cut};
 use tg_graph::Rule;
+use tg_inputs::{CutQuestion, Halt, Report, cut_in};
+use tg_policies::append_rules;
 use tg_text::append_number;
 
 // Rules as a text of rules: a line with their number, and then each.

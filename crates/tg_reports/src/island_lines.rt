@@ -4,13 +4,14 @@ ghost use Rattle.std.specs.Map.{keys_of};
 ghost use Rattle.std.specs.List.{flat_map};
 ghost use Rattle.tg_graph.specs.GraphOf.{graph_of};
 ghost use Rattle.tg_reports.specs.Reports.{AreIslandLines, island_line};
-ghost use Rattle.tg_reports.specs.Outcomes.{report_text, AreGathered, numbered_text};
+ghost use Rattle.tg_inputs.specs.Outcomes.{report_text};
+ghost use Rattle.tg_reports.specs.ReportParts.{AreGathered, numbered_text};
 
-use crate::outcome::Report;
 use std::alloc::{AllocError, Global};
 use std::marker::Model;
 use tg_analysis::{Islands, islands};
 use tg_graph::{Graph, Name};
+use tg_inputs::Report;
 use tg_text::names_in_order;
 
 // The names of one island, as far as they are gathered.

@@ -1,6 +1,6 @@
 //! Laws of the reports. Each function does nothing: its contract is the law.
 ghost use Rattle.tg_reports.specs.ReportLaws.{CanonicalTextsStay, CutsFit, CutsMakeItNo, DerivationsBelowGiveTheRight, DerivationsGiveTheRights, IslandsAreLines, ReachIsARow, ReadDerivationsGiveTheRights, RulesStopAtRefusal, ThereIsOneReport, WhoIsAColumn};
-ghost use Rattle.tg_reports.specs.Policies.{KeptExactly, VerdictsAreOne};
+ghost use Rattle.tg_policies.specs.Policies.{KeptExactly, VerdictsAreOne};
 
 use tg_text::laws::equal_graphs_have_one_text;
 

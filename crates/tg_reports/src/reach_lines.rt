@@ -5,16 +5,16 @@ ghost use Rattle.tg_graph.specs.GraphOf.{graph_of};
 ghost use Rattle.tg_graph.specs.Graphs.{has_vertex};
 ghost use Rattle.tg_names.specs.Letters.{letters_among};
 ghost use Rattle.tg_analysis.specs.Reaching.{TellReach};
-ghost use Rattle.tg_reports.specs.Readings.{reach_in};
-ghost use Rattle.tg_reports.specs.Reports.{IsFor, AreReachLines, reach_line};
-ghost use Rattle.tg_reports.specs.Outcomes.{Makes, report_text, reach_question_of, set_of_name, reached_text};
+ghost use Rattle.tg_inputs.specs.Readings.{reach_in, IsFor};
+ghost use Rattle.tg_reports.specs.Reports.{AreReachLines, reach_line};
+ghost use Rattle.tg_inputs.specs.Outcomes.{Makes, report_text, reach_question_of};
+ghost use Rattle.tg_reports.specs.ReportParts.{set_of_name, reached_text};
 
-use crate::inputs::{ReachQuestion, reach_in};
-use crate::outcome::{Halt, Report};
 use bitflags::Flags;
 use std::alloc::{AllocError, Global};
 use tg_analysis::AskFault;
 use tg_graph::{Graph, Name, Right, Rights};
+use tg_inputs::{Halt, ReachQuestion, Report, reach_in};
 use tg_text::names_in_order;
 
 // The set of the vertex of that name.

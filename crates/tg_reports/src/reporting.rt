@@ -1,25 +1,22 @@
 //! Reports on protection graphs.
 ghost use Rattle.std.specs.Prelude.{IfOk};
-ghost use Rattle.tg_reports.specs.Calls.{command_words};
-ghost use Rattle.tg_reports.specs.Readings.{graph_in};
-ghost use Rattle.tg_reports.specs.Reports.{check_report, apply_report, IsReport, IsFor, AreIslandLines, graph_part, rules_part};
-ghost use Rattle.tg_reports.specs.Outcomes.{Brings, Makes, report_text};
+ghost use Rattle.tg_inputs.specs.Calls.{command_words};
+ghost use Rattle.tg_inputs.specs.Readings.{graph_in, IsFor};
+ghost use Rattle.tg_reports.specs.Reports.{check_report, apply_report, IsReport, AreIslandLines};
+ghost use Rattle.tg_inputs.specs.Parts.{graph_part, rules_part};
+ghost use Rattle.tg_inputs.specs.Outcomes.{Brings, Makes, report_text};
 
 use crate::cut_lines::cut;
-use crate::inputs::{graph_in, rules_applied};
 use crate::island_lines::islands_report;
-use crate::outcome::{Halt, Report};
-use crate::parts::parts_of;
-use crate::playing::AppliedRules;
 use crate::reach_lines::reach;
-use crate::running::run;
 use crate::sharing::{derive, share};
 use crate::table_lines::table;
-use crate::verifying::verify;
 use crate::who_lines::who;
-use crate::words::Command;
 use std::alloc::{AllocError, Global};
 use std::thread::Threads;
+use tg_inputs::{AppliedRules, Command, Halt, Report, graph_in, parts_of, rules_applied};
+use tg_plays::run;
+use tg_policies::verify;
 use tg_text::{write_graph, write_graph_behind};
 
 fn check(alloc: Global, first: &[u8]) -> Result<Report, Halt>

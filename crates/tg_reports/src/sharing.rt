@@ -1,17 +1,15 @@
 //! Questions about sharing.
-ghost use Rattle.std.specs.Prelude.{◌≡◌, ◌++◌, IfOk, OnOk};
-ghost use Rattle.tg_text.specs.RoundTrips.{lines_of_rules};
-ghost use Rattle.tg_reports.specs.Readings.{question_in};
-ghost use Rattle.tg_reports.specs.Reports.{IsFor, IsAnswer, IsDerived};
-ghost use Rattle.tg_reports.specs.Derived.{derivation_report};
-ghost use Rattle.tg_reports.specs.Outcomes.{Makes, report_text, question_of, IsAskable};
+ghost use Rattle.std.specs.Prelude.{◌≡◌, IfOk};
+ghost use Rattle.tg_inputs.specs.Readings.{question_in, IsFor};
+ghost use Rattle.tg_reports.specs.Reports.{IsAnswer, IsDerived};
+ghost use Rattle.tg_policies.specs.Derived.{derivation_report};
+ghost use Rattle.tg_inputs.specs.Outcomes.{Makes, report_text, question_of, IsAskable};
 
-use crate::inputs::{Question, question_in};
-use crate::outcome::{Halt, Report};
 use std::alloc::{AllocError, Global};
 use tg_analysis::{AskFault, can_share_all, derivation_all};
 use tg_graph::Rule;
-use tg_text::{append_number, append_rule};
+use tg_inputs::{Halt, Question, Report, question_in};
+use tg_policies::append_derivation;
 
 // The line of bytes as a report.
 pub(crate) fn line(alloc: Global, words: &[u8]) -> Result<Report, AllocError>
@@ -55,29 +53,6 @@ pub(crate) fn share(
     let question = question_in(alloc, first, rights, x, y)?;
     let report = answer(alloc, &question)?;
     Ok(report)
-}
-
-// Appends the lines of rules.
-pub(crate) fn append_rules(text: &mut Vec<u8>, rules: &[Rule]) -> Result<(), AllocError>
-    ensures { OnOk result (text.new.items ≡ text.old.items ++ lines_of_rules rules.now) }
-{
-    for rule in rules {
-        append_rule(text, rule)?;
-        text.push(b'\n')?;
-    }
-    Ok(())
-}
-
-// Appends rules as a text of rules: a line with their number, and then each.
-pub(crate) fn append_derivation(text: &mut Vec<u8>, rules: &[Rule]) -> Result<(), AllocError>
-    ensures { OnOk result (text.new.items
-        ≡ text.old.items ++ (derivation_report rules.now).bytes) }
-{
-    text.extend_from_slice(b"# yes ")?;
-    append_number(text, rules.len())?;
-    text.push(b'\n')?;
-    append_rules(text, rules)?;
-    Ok(())
 }
 
 fn rules_report(alloc: Global, rules: &[Rule]) -> Result<Report, AllocError>

@@ -3,16 +3,16 @@ ghost use Rattle.std.specs.Prelude.{◌≡◌, ◌++◌, ◌∷◌, map, IfOk, O
 ghost use Rattle.std.specs.Map.{keys_of};
 ghost use Rattle.tg_graph.specs.GraphOf.{graph_of};
 ghost use Rattle.tg_analysis.specs.Tables.{IsPairTable};
-ghost use Rattle.tg_reports.specs.Readings.{table_in};
-ghost use Rattle.tg_reports.specs.Reports.{IsFor, AreTableLines};
-ghost use Rattle.tg_reports.specs.Outcomes.{Makes, report_text, table_question_of, IsTableWork, placed, digit_at, placed_line, placed_text};
+ghost use Rattle.tg_inputs.specs.Readings.{table_in, IsFor};
+ghost use Rattle.tg_reports.specs.Reports.{AreTableLines};
+ghost use Rattle.tg_inputs.specs.Outcomes.{Makes, report_text, table_question_of, IsTableWork};
+ghost use Rattle.tg_reports.specs.ReportParts.{placed, digit_at, placed_line, placed_text};
 
-use crate::inputs::{TableWork, table_in};
-use crate::outcome::{Halt, Report};
 use std::alloc::{AllocError, Global};
 use std::thread::Threads;
 use tg_analysis::{OpenGate, PairTable, TableFault, pair_table};
 use tg_graph::{Graph, Name};
+use tg_inputs::{Halt, Report, TableWork, table_in};
 use tg_text::names_in_order;
 
 // The names with their positions.

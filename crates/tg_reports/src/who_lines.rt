@@ -4,15 +4,15 @@ ghost use Rattle.std.specs.Map.{keys_of};
 ghost use Rattle.tg_graph.specs.GraphOf.{graph_of};
 ghost use Rattle.tg_graph.specs.Graphs.{has_vertex};
 ghost use Rattle.tg_analysis.specs.Reaching.{TellWho};
-ghost use Rattle.tg_reports.specs.Readings.{who_in};
-ghost use Rattle.tg_reports.specs.Reports.{IsFor, AreWhoLines, name_line};
-ghost use Rattle.tg_reports.specs.Outcomes.{Makes, report_text, who_question_of, is_marked_name, marked_text};
+ghost use Rattle.tg_inputs.specs.Readings.{who_in, IsFor};
+ghost use Rattle.tg_reports.specs.Reports.{AreWhoLines, name_line};
+ghost use Rattle.tg_inputs.specs.Outcomes.{Makes, report_text, who_question_of};
+ghost use Rattle.tg_reports.specs.ReportParts.{is_marked_name, marked_text};
 
-use crate::inputs::{WhoQuestion, who_in};
-use crate::outcome::{Halt, Report};
 use std::alloc::{AllocError, Global};
 use tg_analysis::AskFault;
 use tg_graph::{Graph, Name};
+use tg_inputs::{Halt, Report, WhoQuestion, who_in};
 use tg_text::names_in_order;
 
 // Whether the vertex of that name is marked.

@@ -1,7 +1,7 @@
 use Rattle.std.proofs.Common.{ap}
-use Rattle.tg_reports.specs.Calls.{call_words}
+use Rattle.tg_inputs.specs.Calls.{call_words}
 use Rattle.officer.specs.Dealings.{bytes_of, seen}
-use Rattle.tg_reports.specs.Outcomes.{report_text}
+use Rattle.tg_inputs.specs.Outcomes.{report_text}
 use Rattle.officer.proofs.DealingLemmas.{call_answered}
 use Rattle.officer.proofs.call.answer.Goals as goal
 

@@ -1,5 +1,5 @@
 use Rattle.std.proofs.Common.{refl}
-use Rattle.tg_reports.specs.Outcomes.{report_text}
+use Rattle.tg_inputs.specs.Outcomes.{report_text}
 use Rattle.officer.proofs.DealingLemmas.{report_same}
 use Rattle.officer.proofs.call.report_of.Goals as goal
 

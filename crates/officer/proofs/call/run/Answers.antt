@@ -1,6 +1,6 @@
 use Rattle.std.proofs.Common.{◌≡◌, sym, ◌∙◌, ap, map, ℕ, List, Vec, String, Global}
 use Rattle.std.specs.Prelude.{string_bytes, Some}
-use Rattle.tg_reports.specs.Calls.{call_of, call_words}
+use Rattle.tg_inputs.specs.Calls.{call_of, call_words}
 use Rattle.officer.specs.Dealings.{seen}
 use Rattle.officer.proofs.DealingLemmas.{words_answered}
 use Rattle.officer.proofs.call.run.Goals as goal

@@ -2,10 +2,11 @@ use Rattle.std.proofs.Common.{◌≡◌, List, Option, Vec, Global, Result, Ok, 
 use Rattle.std.specs.Prelude.{IfOk, MatchOption}
 use Rattle.tg_graph.specs.declared.rules.Rule.{Rule}
 use Rattle.tg_cuts.specs.Cuts.{IsTheCut, HasNoCut}
-use Rattle.tg_reports.specs.declared.outcome.Report.{Report}
-use Rattle.tg_reports.specs.Readings.{CutQuestion}
+use Rattle.tg_inputs.specs.declared.outcome.Report.{Report}
+use Rattle.tg_inputs.specs.Readings.{CutQuestion}
 use Rattle.tg_reports.specs.Reports.{IsCut}
-use Rattle.tg_reports.specs.Outcomes.{report_text, cut_text, cut_question_of}
+use Rattle.tg_inputs.specs.Outcomes.{report_text, cut_question_of}
+use Rattle.tg_reports.specs.ReportParts.{cut_text}
 use Rattle.tg_reports.proofs.CutReports.{cut_told}
 use Rattle.tg_reports.proofs.cut_lines.report_of.Goals as goal
 

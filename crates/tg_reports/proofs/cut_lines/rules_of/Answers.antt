@@ -2,7 +2,7 @@ use Rattle.std.proofs.Common.{List, subst}
 use Rattle.std.specs.Prelude.{MatchOption}
 use Rattle.tg_cuts.specs.declared.kept.Ends.{Ends}
 use Rattle.tg_cuts.specs.Cuts.{IsTheCut, HasNoCut}
-use Rattle.tg_reports.specs.Outcomes.{cut_question_of}
+use Rattle.tg_inputs.specs.Outcomes.{cut_question_of}
 use Rattle.tg_reports.proofs.cut_lines.rules_of.Goals as goal
 
 pub returns-in-Ok : goal.returns-in-Ok

@@ -1,7 +1,7 @@
 use Rattle.std.proofs.Common.{length, take}
 use Rattle.std.specs.Map.{keys_of}
 use Rattle.tg_islands.specs.Numbering.{AreCounted}
-use Rattle.tg_reports.specs.Outcomes.{AreGathered}
+use Rattle.tg_reports.specs.ReportParts.{AreGathered}
 use Rattle.tg_reports.proofs.island_lines.gathered.Given as goal
 
 abbrev pub invariant-loop-name : goal.invariant-loop-name

@@ -2,9 +2,9 @@ use Rattle.std.proofs.Common.{◌≡◌, ℕ, List, ap, ◌∙◌}
 use Rattle.std.specs.Map.{keys_of}
 use Rattle.tg_graph.specs.GraphOf.{graph_of}
 use Rattle.tg_text.specs.Canonical.{in_name_order}
-use Rattle.tg_reports.specs.Readings.{ReportText}
+use Rattle.tg_inputs.specs.Readings.{ReportText}
 use Rattle.tg_reports.specs.Reports.{islands_text}
-use Rattle.tg_reports.specs.Outcomes.{numbered_text}
+use Rattle.tg_reports.specs.ReportParts.{numbered_text}
 use Rattle.tg_reports.proofs.IslandTests.{have_one_number, numbered_text_is, tells_islands}
 use Rattle.tg_reports.proofs.island_lines.islands_report.Goals as goal
 

@@ -1,4 +1,4 @@
-use Rattle.tg_reports.proofs.VerdictLaws.{kept_exactly, verdicts_are_one}
+use Rattle.tg_policies.proofs.VerdictLaws.{kept_exactly, verdicts_are_one}
 use Rattle.tg_reports.proofs.laws.kept_where_each_line_holds.Goals as goal
 
 pub returns-clause-kept : goal.returns-clause-kept

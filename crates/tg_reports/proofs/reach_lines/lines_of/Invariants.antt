@@ -1,6 +1,6 @@
 use Rattle.std.proofs.Common.{◌≡◌, take}
 use Rattle.std.specs.Map.{keys_of}
-use Rattle.tg_reports.specs.Outcomes.{reached_text}
+use Rattle.tg_reports.specs.ReportParts.{reached_text}
 use Rattle.tg_reports.proofs.reach_lines.lines_of.Given as goal
 
 abbrev pub invariant-loop-name : goal.invariant-loop-name

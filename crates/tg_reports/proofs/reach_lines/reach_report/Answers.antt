@@ -2,9 +2,9 @@ use Rattle.std.proofs.Common.{◌≡◌, ℕ, List, ap, ◌∙◌}
 use Rattle.std.specs.Map.{keys_of}
 use Rattle.tg_graph.specs.GraphOf.{graph_of}
 use Rattle.tg_text.specs.Canonical.{in_name_order}
-use Rattle.tg_reports.specs.Readings.{ReportText}
+use Rattle.tg_inputs.specs.Readings.{ReportText}
 use Rattle.tg_reports.specs.Reports.{reach_text}
-use Rattle.tg_reports.specs.Outcomes.{set_of_name, reached_text}
+use Rattle.tg_reports.specs.ReportParts.{set_of_name, reached_text}
 use Rattle.tg_reports.proofs.WhoTests.{tells_reach}
 use Rattle.tg_reports.proofs.reach_lines.reach_report.Goals as goal
 

@@ -1,7 +1,7 @@
 use Rattle.std.proofs.Common.{Result, subst}
-use Rattle.tg_reports.specs.Readings.{ReportText}
-use Rattle.tg_reports.specs.Outcomes.{Brings, report_text}
-use Rattle.tg_reports.proofs.Parting.{report_by_lines}
+use Rattle.tg_inputs.specs.Readings.{ReportText}
+use Rattle.tg_inputs.specs.Outcomes.{Brings, report_text}
+use Rattle.tg_reports.proofs.SameLines.{report_by_lines}
 use Rattle.tg_reports.proofs.reporting.case.Goals as goal
 
 pub returns : goal.returns

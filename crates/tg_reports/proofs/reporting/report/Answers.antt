@@ -1,9 +1,9 @@
 use Rattle.std.proofs.Common.{ℕ, List, map, Bor, Err, ap, sym, ◌∙◌, rules, subst}
-use Rattle.tg_reports.specs.declared.words.Command.{Command}
-use Rattle.tg_reports.specs.Calls.{command_words}
-use Rattle.tg_reports.specs.Readings.{cut_in}
-use Rattle.tg_reports.specs.Reports.{IsReport, IsFor, IsCut}
-use Rattle.tg_reports.specs.Outcomes.{report_text}
+use Rattle.tg_inputs.specs.declared.words.Command.{Command}
+use Rattle.tg_inputs.specs.Calls.{command_words}
+use Rattle.tg_inputs.specs.Readings.{cut_in, IsFor}
+use Rattle.tg_reports.specs.Reports.{IsReport, IsCut}
+use Rattle.tg_inputs.specs.Outcomes.{report_text}
 use Rattle.tg_reports.proofs.MadeReports.{made-report, made-refusal}
 use Rattle.tg_reports.proofs.reporting.report.Goals as goal
 use Rattle.tg_reports.proofs.reporting.report.Goals.{in-Case, in-Check, in-Apply, in-Islands, in-Share, in-Derive, in-Table, in-Run, in-Who, in-Reach, in-Verify, in-Cut}

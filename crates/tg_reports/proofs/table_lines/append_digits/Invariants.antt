@@ -1,5 +1,5 @@
 use Rattle.std.proofs.Common.{◌≡◌, ◌++◌, map, take}
-use Rattle.tg_reports.specs.Outcomes.{digit_at}
+use Rattle.tg_reports.specs.ReportParts.{digit_at}
 use Rattle.tg_reports.proofs.table_lines.append_digits.Given as goal
 
 abbrev pub invariant-loop-entry : goal.invariant-loop-entry

@@ -1,6 +1,6 @@
 use Rattle.std.proofs.Common.{◌≡◌, take}
 use Rattle.std.specs.List.{flat_map}
-use Rattle.tg_reports.specs.Outcomes.{placed_line}
+use Rattle.tg_reports.specs.ReportParts.{placed_line}
 use Rattle.tg_reports.proofs.table_lines.lines_of.Given as goal
 
 abbrev pub invariant-loop-entry : goal.invariant-loop-entry

@@ -2,9 +2,9 @@ use Rattle.std.proofs.Common.{◌≡◌, ℕ, List, ap, ◌∙◌}
 use Rattle.std.specs.Map.{keys_of}
 use Rattle.tg_graph.specs.GraphOf.{graph_of}
 use Rattle.tg_text.specs.Canonical.{in_name_order}
-use Rattle.tg_reports.specs.Readings.{ReportText}
+use Rattle.tg_inputs.specs.Readings.{ReportText}
 use Rattle.tg_reports.specs.Reports.{table_text}
-use Rattle.tg_reports.specs.Outcomes.{placed, placed_text}
+use Rattle.tg_reports.specs.ReportParts.{placed, placed_text}
 use Rattle.tg_reports.proofs.TableTests.{says_yes, placed_text_is, tells_sharing}
 use Rattle.tg_reports.proofs.table_lines.table_report.Goals as goal
 

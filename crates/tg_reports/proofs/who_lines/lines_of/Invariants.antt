@@ -1,6 +1,6 @@
 use Rattle.std.proofs.Common.{◌≡◌, take}
 use Rattle.std.specs.Map.{keys_of}
-use Rattle.tg_reports.specs.Outcomes.{marked_text}
+use Rattle.tg_reports.specs.ReportParts.{marked_text}
 use Rattle.tg_reports.proofs.who_lines.lines_of.Given as goal
 
 abbrev pub invariant-loop-name : goal.invariant-loop-name

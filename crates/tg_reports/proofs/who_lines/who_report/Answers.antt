@@ -2,9 +2,9 @@ use Rattle.std.proofs.Common.{◌≡◌, ℕ, List, ap, ◌∙◌}
 use Rattle.std.specs.Map.{keys_of}
 use Rattle.tg_graph.specs.GraphOf.{graph_of}
 use Rattle.tg_text.specs.Canonical.{in_name_order}
-use Rattle.tg_reports.specs.Readings.{ReportText}
+use Rattle.tg_inputs.specs.Readings.{ReportText}
 use Rattle.tg_reports.specs.Reports.{who_text}
-use Rattle.tg_reports.specs.Outcomes.{is_marked_name, marked_text}
+use Rattle.tg_reports.specs.ReportParts.{is_marked_name, marked_text}
 use Rattle.tg_reports.proofs.WhoTests.{tells_who}
 use Rattle.tg_reports.proofs.who_lines.who_report.Goals as goal
 

@@ -29,6 +29,6 @@ returns-clause-sets c =
     let left : c.replace-moved.new.dest ≡ [] = c.replace-moved.ensures.after ∙ c.new-none.ensures in
     let others : List (List ℕ) = set members c.args.from c.replace-moved.new.dest in
     let there : c.index_mut-2.result.now ≡ members_of others c.args.to = members-read others c.args.to c.index_mut-2.result.now (omega (arith, c.requires.to, c.requires.sets.len, length-set members c.args.from c.replace-moved.new.dest)) c.index_mut-2.ensures.value in
-    let longer : c.add_all.new.self ≡ members_of others c.args.to ++ members_of members c.args.from = c.in_ok-add_all.ensures ∙ ap (λ xs. xs ++ c.as_slice-2.result.now) there ∙ ap (λ ys. members_of others c.args.to ++ ys) moved_again in
+    let longer : c.add_all.new.self ≡ members_of others c.args.to ++ members_of members c.args.from = c.in_ok-add_all.ensures.added ∙ ap (λ xs. xs ++ c.as_slice-2.result.now) there ∙ ap (λ ys. members_of others c.args.to ++ ys) moved_again in
     let all : set others c.args.to c.add_all.new.self ≡ set (set members c.args.from []) c.args.to (members_of (set members c.args.from []) c.args.to ++ members_of members c.args.from) = ap (set others c.args.to) longer ∙ ap (λ d. set (set members c.args.from d) c.args.to (members_of (set members c.args.from d) c.args.to ++ members_of members c.args.from)) left in
     sets-moved c.args.self.now _ c.args.from c.args.to c.requires.sets c.requires.from c.requires.to c.requires.other puts all

@@ -1,0 +1,4 @@
+pub mod Parting
+pub mod RulesPlayed
+pub mod PlayableScripts
+pub mod KeptEdges

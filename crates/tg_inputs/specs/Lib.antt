@@ -1,0 +1,5 @@
+pub mod Readings
+pub mod Calls
+pub mod Replies
+pub mod Parts
+pub mod Outcomes

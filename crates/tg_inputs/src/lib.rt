@@ -1,0 +1,18 @@
+//! What is asked of the report engine: the words of a command line, and the texts that a report is about. A fault
+//! of either is a report too.
+#![tactic(auto)]
+
+mod inputs;
+mod outcome;
+mod parts;
+mod playing;
+mod words;
+
+pub use inputs::{
+    CutQuestion, Question, ReachQuestion, TableWork, WhoQuestion, cut_in, graph_in,
+    policy_lines_in, question_in, reach_in, rules_applied, script_in, table_in, who_in,
+};
+pub use outcome::{Halt, Report};
+pub use parts::parts_of;
+pub use playing::AppliedRules;
+pub use words::{Call, Command, read_words};

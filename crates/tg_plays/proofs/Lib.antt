@@ -1,0 +1,6 @@
+pub mod ActLemmas
+pub mod ScriptLemmas
+pub mod OnePlay
+pub mod RaceTurns
+pub mod RaceHistory
+pub mod RaceReports

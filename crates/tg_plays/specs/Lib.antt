@@ -1,0 +1,4 @@
+pub mod Runs
+pub mod RunParts
+pub mod Races
+pub mod RaceParts

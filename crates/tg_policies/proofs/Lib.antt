@@ -1,0 +1,5 @@
+pub mod GroupLaws
+pub mod VerdictLaws
+pub mod ToldLines
+pub mod FirstBreaks
+pub mod OneVerified

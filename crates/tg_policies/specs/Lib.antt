@@ -1,0 +1,3 @@
+pub mod Derived
+pub mod Policies
+pub mod PolicyParts

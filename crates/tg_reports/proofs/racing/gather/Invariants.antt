@@ -1,5 +1,0 @@
-use Rattle.tg_reports.specs.RaceParts.{AreGathered}
-use Rattle.tg_reports.proofs.racing.gather.Given as goal
-
-abbrev pub invariant-loop-finished : goal.invariant-loop-finished
-invariant-loop-finished l = AreGathered l.yielded l.text.items l.seats.items
