@@ -13,7 +13,7 @@ use Rattle.tg_islands.specs.declared.questions.AskFault.{AskFault}
 use Rattle.tg_cuts.specs.declared.kept.Ends.{Ends}
 use Rattle.tg_cuts.specs.Cuts.{unknown_end_or, cut_fault}
 use Rattle.tg_analysis.specs.Tables.{most_workers}
-use Rattle.tg_store.specs.Acts.{IsStageableAct}
+use Rattle.tg_hall.specs.Acts.{IsStageableAct}
 use Rattle.tg_inputs.specs.declared.outcome.Report.{Report}
 use Rattle.tg_inputs.specs.declared.outcome.Halt.{Halt}
 use Rattle.tg_inputs.specs.declared.outcome.Halt.TheVariants as halt

@@ -8,15 +8,15 @@ use Rattle.tg_graph.specs.declared.session.Act.{Act}
 use Rattle.tg_graph.specs.declared.session.Act.TheVariants as act
 use Rattle.tg_graph.specs.declared.session.Step.{Step}
 use Rattle.tg_graph.specs.Graphs.{ProtectionGraph}
-use Rattle.tg_store.specs.declared.answers.Answered.{Answered}
-use Rattle.tg_store.specs.declared.records.Record.{Record}
-use Rattle.tg_store.specs.declared.events.Event.{Event}
-use Rattle.tg_store.specs.declared.events.Event.TheVariants.{Begin, Learn, Stage, Put, Abort}
-use Rattle.tg_store.specs.declared.events.HallReply.{HallReply}
-use Rattle.tg_store.specs.declared.events.HallReply.TheVariants as reply
-use Rattle.tg_store.specs.declared.events.HallFault.TheVariants.{NoSeat, AlreadyOpen, NotOpen, Changed, Crowded, JournalFull, Memory}
-use Rattle.tg_store.specs.Worlds.{World, SeatView, seat_of, seat_in, rests_on, with_seat, Opens, TakesIn, Learns, Says, Joins, Puts, Moves, Happens, Run}
-use Rattle.tg_store.specs.Acts.{is_learned, is_free, Repeats, OpensAfter, CatchesUp, Acts}
+use Rattle.tg_hall.specs.declared.answers.Answered.{Answered}
+use Rattle.tg_hall.specs.declared.records.Record.{Record}
+use Rattle.tg_hall.specs.declared.events.Event.{Event}
+use Rattle.tg_hall.specs.declared.events.Event.TheVariants.{Begin, Learn, Stage, Put, Abort}
+use Rattle.tg_hall.specs.declared.events.HallReply.{HallReply}
+use Rattle.tg_hall.specs.declared.events.HallReply.TheVariants as reply
+use Rattle.tg_hall.specs.declared.events.HallFault.TheVariants.{NoSeat, AlreadyOpen, NotOpen, Changed, Crowded, JournalFull, Memory}
+use Rattle.tg_hall.specs.Worlds.{World, SeatView, seat_of, seat_in, rests_on, with_seat, Opens, TakesIn, Learns, Says, Joins, Puts, Moves, Happens, Run}
+use Rattle.tg_hall.specs.Acts.{is_learned, is_free, Repeats, OpensAfter, CatchesUp, Acts}
 use Rattle.tg_plays.specs.RunParts.{MayBeTold}
 
 -- ---- what stays

@@ -14,20 +14,20 @@ use Rattle.tg_graph.specs.Graphs.{ProtectionGraph}
 use Rattle.tg_graph.specs.GraphOf.{graph_of}
 use Rattle.tg_rows.specs.Rows.{Entries}
 use Rattle.tg_text.specs.declared.script_text.ScriptLine.{ScriptLine}
-use Rattle.tg_store.specs.declared.answers.Answered.{Answered}
-use Rattle.tg_store.specs.declared.records.Record.{Record}
-use Rattle.tg_store.specs.declared.events.Event.{Event}
-use Rattle.tg_store.specs.declared.events.Event.TheVariants.{Begin, Learn, Stage, Put, Abort}
-use Rattle.tg_store.specs.declared.events.HallReply.{HallReply}
-use Rattle.tg_store.specs.declared.events.HallReply.TheVariants as reply
-use Rattle.tg_store.specs.declared.events.HallFault.TheVariants.{NoSeat, AlreadyOpen, NotOpen, Changed, Crowded, JournalFull, Memory}
-use Rattle.tg_store.specs.Answers.{IsAnswer, after_steps}
-use Rattle.tg_store.specs.Touches.{IsClear, IsSpoilt, IsOvercrowded}
+use Rattle.tg_hall.specs.declared.answers.Answered.{Answered}
+use Rattle.tg_hall.specs.declared.records.Record.{Record}
+use Rattle.tg_hall.specs.declared.events.Event.{Event}
+use Rattle.tg_hall.specs.declared.events.Event.TheVariants.{Begin, Learn, Stage, Put, Abort}
+use Rattle.tg_hall.specs.declared.events.HallReply.{HallReply}
+use Rattle.tg_hall.specs.declared.events.HallReply.TheVariants as reply
+use Rattle.tg_hall.specs.declared.events.HallFault.TheVariants.{NoSeat, AlreadyOpen, NotOpen, Changed, Crowded, JournalFull, Memory}
+use Rattle.tg_hall.specs.Answers.{IsAnswer, after_steps}
+use Rattle.tg_hall.specs.Touches.{IsClear, IsSpoilt, IsOvercrowded}
 use Rattle.tg_text.specs.ScriptText.{ScriptOf}
 use Rattle.tg_text.specs.Canonical.{line_of, canonical_text}
-use Rattle.tg_store.specs.Histories.{replay}
-use Rattle.tg_store.specs.Worlds.{World, opened, SeatView, seat_of, seat_in, rests_on, with_seat, with_session, one_further, Opens, TakesIn, Learns, Says, Joins, Moves, Happens, Run}
-use Rattle.tg_store.specs.Acts.{is_learned, is_free, Repeats, OpensAfter, CatchesUp, Acts}
+use Rattle.tg_hall.specs.Histories.{replay}
+use Rattle.tg_hall.specs.Worlds.{World, opened, SeatView, seat_of, seat_in, rests_on, with_seat, with_session, one_further, Opens, TakesIn, Learns, Says, Joins, Moves, Happens, Run}
+use Rattle.tg_hall.specs.Acts.{is_learned, is_free, Repeats, OpensAfter, CatchesUp, Acts}
 use Rattle.tg_inputs.specs.Readings.{ReportText}
 use Rattle.tg_plays.specs.Runs.{outcome_words, outcome_line, Plays, IsPlayed}
 use Rattle.tg_plays.proofs.ActLemmas.{happens_keeps, run_keeps, acts_keep}

@@ -12,16 +12,16 @@ use Rattle.tg_graph.specs.Graphs.{ProtectionGraph}
 use Rattle.tg_graph.specs.GraphOf.{graph_of}
 use Rattle.tg_text.specs.declared.script_text.ScriptLine.{ScriptLine}
 use Rattle.tg_journal.specs.Lists.{Begins}
-use Rattle.tg_store.specs.declared.answers.Answered.{Answered}
-use Rattle.tg_store.specs.declared.records.Record.{Record}
+use Rattle.tg_hall.specs.declared.answers.Answered.{Answered}
+use Rattle.tg_hall.specs.declared.records.Record.{Record}
 use Rattle.tg_store.specs.declared.outcomes.Begun.{Begun}
 use Rattle.tg_store.specs.declared.outcomes.Begun.TheVariants as begun
 use Rattle.tg_store.specs.declared.outcomes.BeginFault.TheVariants as begin
 use Rattle.tg_store.specs.declared.outcomes.Committed.{Committed}
 use Rattle.tg_store.specs.declared.outcomes.Committed.TheVariants as committed
 use Rattle.tg_store.specs.declared.outcomes.CommitFault.TheVariants as commit
-use Rattle.tg_store.specs.Answers.{AreAnswers}
-use Rattle.tg_store.specs.Histories.{replay}
+use Rattle.tg_hall.specs.Answers.{AreAnswers}
+use Rattle.tg_hall.specs.Histories.{replay}
 use Rattle.tg_store.specs.Running.{RunningStore, RunningSeat, RunningSession, IsSeat, GoesOn, first_seat, seen_graph}
 use Rattle.tg_store.specs.Outcomes.{BeginSays, CommitSays, IsPut}
 use Rattle.tg_store.proofs.RunningSeats.{begins-take, begins-get, begins-trans, get-push, goes_on-refl}

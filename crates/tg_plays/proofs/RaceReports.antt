@@ -16,8 +16,8 @@ use Rattle.tg_text.specs.ScriptText.{ScriptOf}
 use Rattle.tg_journal.specs.Lists.{Begins}
 use Rattle.tg_store.specs.declared.outcomes.StoreMeetFault.{StoreMeetFault}
 use Rattle.tg_store.specs.declared.outcomes.StoreMeetFault.TheVariants as meet
-use Rattle.tg_store.specs.declared.records.Record.{Record}
-use Rattle.tg_store.specs.Histories.{replay}
+use Rattle.tg_hall.specs.declared.records.Record.{Record}
+use Rattle.tg_hall.specs.Histories.{replay}
 use Rattle.tg_store.specs.Running.{RunningStore, RunningSeat, IsOf, IsSeat, GoesOn, PutsNothing, first_seat, seen_graph}
 use Rattle.tg_store.proofs.RunningSeats.{begins-back, begins-get, begins-length, begins-trans}
 use Rattle.tg_plays.specs.declared.racing.Finished.{Finished}

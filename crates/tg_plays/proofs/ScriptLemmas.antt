@@ -2,7 +2,7 @@
 use Rattle.std.proofs.Common.{◌≡◌, ℕ, ◌+◌, ◌<◌, List, [], ◌∷◌, ◌++◌, length, take, get_or, refl, sym, ap, subst, ◌∙◌, append_assoc}
 use Rattle.std.proofs.lemmas.List.{append-nil, take_more}
 use Rattle.tg_text.specs.declared.script_text.ScriptLine.{ScriptLine}
-use Rattle.tg_store.specs.Worlds.{World}
+use Rattle.tg_hall.specs.Worlds.{World}
 use Rattle.tg_plays.specs.Runs.{IsOutcome, Plays}
 use Rattle.tg_plays.proofs.ActLemmas.{acts_keep}
 

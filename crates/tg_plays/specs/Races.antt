@@ -12,10 +12,10 @@ use Rattle.tg_text.specs.ScriptText.{ScriptOf}
 use Rattle.tg_text.specs.Canonical.{line_of, canonical_text}
 use Rattle.tg_journal.specs.Lists.{Begins}
 use Rattle.tg_journal.specs.Pass.{KnowsAt}
-use Rattle.tg_store.specs.declared.answers.Answered.{Answered}
-use Rattle.tg_store.specs.declared.records.Record.{Record}
-use Rattle.tg_store.specs.declared.events.HallFault.TheVariants as hall
-use Rattle.tg_store.specs.declared.events.HallReply.TheVariants.{Done, Said, Put, Refused}
+use Rattle.tg_hall.specs.declared.answers.Answered.{Answered}
+use Rattle.tg_hall.specs.declared.records.Record.{Record}
+use Rattle.tg_hall.specs.declared.events.HallFault.TheVariants as hall
+use Rattle.tg_hall.specs.declared.events.HallReply.TheVariants.{Done, Said, Put, Refused}
 use Rattle.tg_store.specs.declared.outcomes.Begun.{Begun}
 use Rattle.tg_store.specs.declared.outcomes.Begun.TheVariants as begun
 use Rattle.tg_store.specs.declared.outcomes.BeginFault.{BeginFault}
@@ -24,8 +24,8 @@ use Rattle.tg_store.specs.declared.outcomes.Committed.{Committed}
 use Rattle.tg_store.specs.declared.outcomes.Committed.TheVariants as committed
 use Rattle.tg_store.specs.declared.outcomes.CommitFault.{CommitFault}
 use Rattle.tg_store.specs.declared.outcomes.CommitFault.TheVariants as commit
-use Rattle.tg_store.specs.Answers.{IsAnswer, AreAnswers, after_steps}
-use Rattle.tg_store.specs.Histories.{replay, IsLegal}
+use Rattle.tg_hall.specs.Answers.{IsAnswer, AreAnswers, after_steps}
+use Rattle.tg_hall.specs.Histories.{replay, IsLegal}
 use Rattle.tg_store.specs.Running.{RunningStore, RunningSeat, RunningSession, IsSeat, GoesOn, PutsNothing, first_seat}
 use Rattle.tg_store.specs.Outcomes.{BeginSays, CommitSays, FindsForeign}
 use Rattle.tg_plays.specs.declared.turns.Player.{Player}

@@ -2,11 +2,11 @@
 use Rattle.std.specs.Prelude.{◌≡◌, ⊤, ℕ, List, ◌++◌, length}
 use Rattle.tg_graph.specs.declared.session.Reply.TheVariants.{Refused}
 use Rattle.tg_text.specs.declared.script_text.ScriptLine.{ScriptLine}
-use Rattle.tg_store.specs.declared.events.HallFault.{HallFault}
-use Rattle.tg_store.specs.declared.events.HallFault.TheVariants as hall
-use Rattle.tg_store.specs.declared.events.HallReply.{HallReply}
-use Rattle.tg_store.specs.declared.events.HallReply.TheVariants as reply
-use Rattle.tg_store.specs.Worlds.{World}
+use Rattle.tg_hall.specs.declared.events.HallFault.{HallFault}
+use Rattle.tg_hall.specs.declared.events.HallFault.TheVariants as hall
+use Rattle.tg_hall.specs.declared.events.HallReply.{HallReply}
+use Rattle.tg_hall.specs.declared.events.HallReply.TheVariants as reply
+use Rattle.tg_hall.specs.Worlds.{World}
 use Rattle.tg_plays.specs.Runs.{IsOutcome}
 
 -- an act may be refused so, and it is told, or there was no memory

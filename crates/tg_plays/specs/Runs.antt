@@ -8,13 +8,13 @@ use Rattle.tg_text.specs.Reading.{◌>>=◌}
 use Rattle.tg_text.specs.ScriptText.{ScriptOf}
 use Rattle.tg_text.specs.Spelling.{reply_words}
 use Rattle.tg_text.specs.Canonical.{line_of, canonical_text}
-use Rattle.tg_store.specs.declared.events.HallFault.{HallFault}
-use Rattle.tg_store.specs.declared.events.HallFault.TheVariants.{NoSeat, AlreadyOpen, NotOpen, Changed, Crowded, JournalFull, Memory}
-use Rattle.tg_store.specs.declared.events.HallReply.{HallReply}
-use Rattle.tg_store.specs.declared.events.HallReply.TheVariants.{Done, Learned, Nothing, Said, Put, Refused}
-use Rattle.tg_store.specs.Histories.{replay, IsLegal}
-use Rattle.tg_store.specs.Worlds.{World, opened}
-use Rattle.tg_store.specs.Acts.{Acts}
+use Rattle.tg_hall.specs.declared.events.HallFault.{HallFault}
+use Rattle.tg_hall.specs.declared.events.HallFault.TheVariants.{NoSeat, AlreadyOpen, NotOpen, Changed, Crowded, JournalFull, Memory}
+use Rattle.tg_hall.specs.declared.events.HallReply.{HallReply}
+use Rattle.tg_hall.specs.declared.events.HallReply.TheVariants.{Done, Learned, Nothing, Said, Put, Refused}
+use Rattle.tg_hall.specs.Histories.{replay, IsLegal}
+use Rattle.tg_hall.specs.Worlds.{World, opened}
+use Rattle.tg_hall.specs.Acts.{Acts}
 use Rattle.tg_inputs.specs.Readings.{ReportText, graph_in, script_in}
 
 -- why an act was refused; a missing seat and want of memory are told by no line

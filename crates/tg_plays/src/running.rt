@@ -3,7 +3,7 @@ ghost use Rattle.std.specs.Prelude.{◌≡◌, ◌≤◌, IfOk, All, length};
 ghost use Rattle.tg_graph.specs.GraphOf.{graph_of};
 ghost use Rattle.tg_graph.specs.Limits.{most_vertices};
 ghost use Rattle.tg_text.specs.ScriptText.{script_of};
-ghost use Rattle.tg_store.specs.Worlds.{opened};
+ghost use Rattle.tg_hall.specs.Worlds.{opened};
 ghost use Rattle.tg_inputs.specs.Readings.{IsFor};
 ghost use Rattle.tg_plays.specs.Runs.{playing_in, Plays, IsPlayed};
 ghost use Rattle.tg_inputs.specs.Outcomes.{Makes, IsPlayable, IsPlayableScript, report_text};

@@ -5,11 +5,11 @@ use Rattle.std.proofs.lemmas.Bool.{false≢true, eqb-true}
 use Rattle.std.proofs.lemmas.Option.{slice_get_within, slice_get_read, slice_get-get_or, get_or_from_slice_get}
 use Rattle.tg_graph.specs.Graphs.{ProtectionGraph}
 use Rattle.tg_graph.specs.GraphOf.{graph_of}
-use Rattle.tg_store.specs.declared.records.Record.{Record}
+use Rattle.tg_hall.specs.declared.records.Record.{Record}
 use Rattle.tg_store.specs.declared.outcomes.Begun.{Begun}
 use Rattle.tg_store.specs.declared.outcomes.Begun.TheVariants.{Session, Refused}
-use Rattle.tg_store.specs.Answers.{AreAnswers, after_steps}
-use Rattle.tg_store.specs.Histories.{replay, IsLegal}
+use Rattle.tg_hall.specs.Answers.{AreAnswers, after_steps}
+use Rattle.tg_hall.specs.Histories.{replay, IsLegal}
 use Rattle.tg_store.specs.Running.{RunningStore, RunningSeat, IsOf, IsSeat, GoesOn, PutsNothing, seen_graph}
 use Rattle.tg_store.specs.Agreed.{has_number, AreAgreed}
 use Rattle.tg_store.specs.Outcomes.{BeginSays}

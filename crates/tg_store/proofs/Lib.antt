@@ -1,17 +1,4 @@
-pub mod Ordered
-pub mod Told
-pub mod Agreement
-pub mod Crowds
-pub mod Commuting
-pub mod SeatLemmas
-pub mod TrailLemmas
-pub mod Numbers
-pub mod HallLemmas
-pub mod RunLemmas
-pub mod Learning
-pub mod TakingOver
 pub mod Weighed
 pub mod RunningSeats
 pub mod RunningSessions
 pub mod Agreeing
-pub mod GivingUp

@@ -13,11 +13,11 @@ use Rattle.tg_journal.specs.declared.answers.Put.TheVariants as put
 use Rattle.tg_journal.specs.Lists.{Begins}
 use Rattle.tg_journal.specs.Pass.{PassState, IsPass, Remembers}
 use Rattle.tg_journal.specs.Answers.{NextSays, PutSays}
-use Rattle.tg_store.specs.declared.records.Record.{Record}
+use Rattle.tg_hall.specs.declared.records.Record.{Record}
 use Rattle.tg_store.specs.declared.running_seats.Look.{Look}
 use Rattle.tg_store.specs.declared.running_seats.Look.TheVariants.{Found, Nothing, Foreign}
-use Rattle.tg_store.specs.Answers.{AreAnswers}
-use Rattle.tg_store.specs.Histories.{replay}
+use Rattle.tg_hall.specs.Answers.{AreAnswers}
+use Rattle.tg_hall.specs.Histories.{replay}
 use Rattle.tg_store.specs.Running.{RunningSeat, seat_number, seen_graph, IsOwnRecord, IsSeat, KnowsNoMore, GoesOn, PutsNothing}
 use Rattle.tg_store.specs.Outcomes.{FindsForeign}
 use Rattle.tg_store.specs.Looks.{is_found, LookSays, FindSays}

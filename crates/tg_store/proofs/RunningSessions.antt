@@ -10,24 +10,24 @@ use Rattle.tg_journal.specs.declared.answers.Put.TheVariants as put
 use Rattle.tg_journal.specs.Lists.{Begins}
 use Rattle.tg_journal.specs.Pass.{PassState, IsPass, Remembers}
 use Rattle.tg_journal.specs.Answers.{PutSays}
-use Rattle.tg_store.specs.declared.answers.Answered.{Answered}
-use Rattle.tg_store.specs.declared.records.Record.{Record}
+use Rattle.tg_hall.specs.declared.answers.Answered.{Answered}
+use Rattle.tg_hall.specs.declared.records.Record.{Record}
 use Rattle.tg_store.specs.declared.outcomes.Committed.{Committed}
 use Rattle.tg_store.specs.declared.outcomes.Committed.TheVariants.{Done, Refused, Again}
 use Rattle.tg_store.specs.declared.outcomes.CommitFault.TheVariants.{JournalFull, Foreign}
 use Rattle.tg_store.specs.declared.running_seats.Look.TheVariants as look
 use Rattle.tg_store.specs.Looks.{LookSays}
-use Rattle.tg_store.specs.Answers.{AreAnswers, after_steps}
-use Rattle.tg_store.specs.Touches.{IsClear}
+use Rattle.tg_hall.specs.Answers.{AreAnswers, after_steps}
+use Rattle.tg_hall.specs.Touches.{IsClear}
 use Rattle.tg_store.specs.Running.{RunningSeat, RunningSession, seat_number, seen_graph, IsSeat, IsSession, GoesOn}
 use Rattle.tg_store.specs.Outcomes.{NoneObstructs, IsPut, SessionGoesOn, CommitSays, CommitFaultSays}
 use Rattle.tg_store.specs.Attempts.{progress}
 use Rattle.tg_store.specs.Offers.{IsNotWon, OfferSays}
 use Rattle.tg_store.specs.declared.running_seats.Offered.TheVariants.{Won, Back}
 use Rattle.tg_graph.specs.Drafts.{Changes, laid_over}
-use Rattle.tg_store.specs.Drafted.{drafted, IsDraftOf}
+use Rattle.tg_hall.specs.Drafted.{drafted, IsDraftOf}
 use Rattle.tg_journal.specs.declared.answers.Put.{Put}
-use Rattle.tg_store.proofs.Ordered.{replay-next}
+use Rattle.tg_hall.proofs.Ordered.{replay-next}
 use Rattle.tg_store.proofs.RunningSeats.{begins-back, graph-kept, goes_on-refl, goes_on-trans, goes_on-taken, get-push, seat-at, seat-put, seat-not-won, put-goes_on}
 
 -- ---- records that obstruct no session

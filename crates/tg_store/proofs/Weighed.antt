@@ -10,15 +10,15 @@ use Rattle.tg_rows.specs.Rows.{Entries, is_known}
 use Rattle.tg_graph.specs.GraphOf.{graph_of}
 use Rattle.tg_graph.specs.Drafts.{Changes, Fits}
 use Rattle.tg_graph.proofs.Drafts.{fits-none}
-use Rattle.tg_store.specs.Drafted.{drafted}
+use Rattle.tg_hall.specs.Drafted.{drafted}
 use Rattle.tg_graph.specs.Limits.{most_vertices}
-use Rattle.tg_store.specs.declared.answers.Answered.{Answered}
-use Rattle.tg_store.specs.Answers.{AreAnswers, after_step, after_steps}
-use Rattle.tg_store.specs.Touches.{touches, step_writes, writes, creates, spoiler, name_count, IsCrowded}
-use Rattle.tg_store.specs.Told.{tells_creation}
-use Rattle.tg_store.proofs.Agreement.{vertices-steps}
-use Rattle.tg_store.proofs.Crowds.{name_count-apart}
-use Rattle.tg_store.proofs.Told.{creates-told}
+use Rattle.tg_hall.specs.declared.answers.Answered.{Answered}
+use Rattle.tg_hall.specs.Answers.{AreAnswers, after_step, after_steps}
+use Rattle.tg_hall.specs.Touches.{touches, step_writes, writes, creates, spoiler, name_count, IsCrowded}
+use Rattle.tg_hall.specs.Told.{tells_creation}
+use Rattle.tg_hall.proofs.Agreement.{vertices-steps}
+use Rattle.tg_hall.proofs.Crowds.{name_count-apart}
+use Rattle.tg_hall.proofs.Told.{creates-told}
 
 -- ---- the first name that passes a test
 pub find_left : (test : Name → Bool) (vs ws : List Name) → is_some (find test vs) ≡ true → find test (vs ++ ws) ≡ find test vs

@@ -1,7 +1,7 @@
 -- Seats that have seen the same records, all of them their own.
 use Rattle.std.specs.Prelude.{◌≡◌, ◌==◌, ℕ, Bool, true, List, slice_get, Some}
 use Rattle.std.specs.List.{list_any}
-use Rattle.tg_store.specs.declared.records.Record.{Record}
+use Rattle.tg_hall.specs.declared.records.Record.{Record}
 use Rattle.tg_store.specs.Running.{RunningSeat}
 
 -- whether one of the seats has the number

@@ -1,6 +1,6 @@
 -- One attempt to commit a session.
 use Rattle.std.specs.Prelude.{◌≡◌, ℕ, ◌+◌, ◌<◌, length, slice_get, Some, ⊤}
-use Rattle.tg_store.specs.declared.records.Record.{Record}
+use Rattle.tg_hall.specs.declared.records.Record.{Record}
 use Rattle.tg_store.specs.declared.weighing.Weighed.{Weighed}
 use Rattle.tg_store.specs.declared.weighing.Weighed.TheVariants.{Clear, Ends}
 use Rattle.tg_store.specs.declared.outcomes.Committed.{Committed}

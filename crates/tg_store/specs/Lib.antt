@@ -1,16 +1,3 @@
-pub mod StepWords
-pub mod Sameness
-pub mod Answers
-pub mod Histories
-pub mod Touches
-pub mod Told
-pub mod Drafted
-pub mod Knowing
-pub mod Worlds
-pub mod Seats
-pub mod Trails
-pub mod HallFields
-pub mod Acts
 pub mod Running
 pub mod Weighing
 pub mod Outcomes

@@ -4,7 +4,7 @@ use Rattle.tg_graph.specs.Drafts.{Changes}
 use Rattle.tg_journal.specs.declared.answers.Put.{Put}
 use Rattle.tg_journal.specs.declared.answers.Put.TheVariants as put
 use Rattle.tg_journal.specs.Answers.{PutSays}
-use Rattle.tg_store.specs.declared.records.Record.{Record}
+use Rattle.tg_hall.specs.declared.records.Record.{Record}
 use Rattle.tg_store.specs.declared.running_seats.Offered.{Offered}
 use Rattle.tg_store.specs.declared.running_seats.Offered.TheVariants.{Won, Back}
 use Rattle.tg_store.specs.Running.{RunningSeat, seat_number, IsSeat, GoesOn}

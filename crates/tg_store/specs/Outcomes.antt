@@ -9,10 +9,10 @@ use Rattle.tg_journal.specs.declared.answers.MeetFault.TheVariants as pass_meet
 use Rattle.tg_journal.specs.Front.{FrontState}
 use Rattle.tg_journal.specs.Pass.{PassState, KnowsFromAsBefore}
 use Rattle.tg_journal.specs.Answers.{IsForeign, MeetFaultSays as PassMeetFaultSays}
-use Rattle.tg_store.specs.declared.answers.Answered.{Answered}
-use Rattle.tg_store.specs.declared.records.Record.{Record}
-use Rattle.tg_store.specs.declared.events.StoreFault.{StoreFault}
-use Rattle.tg_store.specs.declared.events.StoreFault.TheVariants as start
+use Rattle.tg_hall.specs.declared.answers.Answered.{Answered}
+use Rattle.tg_hall.specs.declared.records.Record.{Record}
+use Rattle.tg_hall.specs.declared.events.StoreFault.{StoreFault}
+use Rattle.tg_hall.specs.declared.events.StoreFault.TheVariants as start
 use Rattle.tg_store.specs.declared.outcomes.Begun.{Begun}
 use Rattle.tg_store.specs.declared.outcomes.Begun.TheVariants as begun
 use Rattle.tg_store.specs.declared.outcomes.BeginFault.{BeginFault}
@@ -23,8 +23,8 @@ use Rattle.tg_store.specs.declared.outcomes.CommitFault.{CommitFault}
 use Rattle.tg_store.specs.declared.outcomes.CommitFault.TheVariants as commit
 use Rattle.tg_store.specs.declared.outcomes.StoreMeetFault.{StoreMeetFault}
 use Rattle.tg_store.specs.declared.outcomes.StoreMeetFault.TheVariants as meet
-use Rattle.tg_store.specs.Touches.{IsClear, IsSpoilt, IsOvercrowded}
-use Rattle.tg_store.specs.Worlds.{opening_fault}
+use Rattle.tg_hall.specs.Touches.{IsClear, IsSpoilt, IsOvercrowded}
+use Rattle.tg_hall.specs.Worlds.{opening_fault}
 use Rattle.tg_store.specs.Running.{RunningSeat, RunningSession, seat_number, seen_graph, IsSeat, IsSession, KnowsNoMore, GoesOn, PutsNothing}
 
 -- why no store is made, where its journal is refused so

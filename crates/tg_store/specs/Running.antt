@@ -5,10 +5,10 @@ use Rattle.tg_graph.specs.Graphs.{ProtectionGraph}
 use Rattle.tg_graph.specs.GraphOf.{graph_of}
 use Rattle.tg_journal.specs.Lists.{Begins}
 use Rattle.tg_journal.specs.Pass.{PassState, IsPass, KnowsAt, Remembers, fresh}
-use Rattle.tg_store.specs.declared.answers.Answered.{Answered}
-use Rattle.tg_store.specs.declared.records.Record.{Record}
-use Rattle.tg_store.specs.Answers.{AreAnswers}
-use Rattle.tg_store.specs.Histories.{replay}
+use Rattle.tg_hall.specs.declared.answers.Answered.{Answered}
+use Rattle.tg_hall.specs.declared.records.Record.{Record}
+use Rattle.tg_hall.specs.Answers.{AreAnswers}
+use Rattle.tg_hall.specs.Histories.{replay}
 
 -- a store: the vertices with their rows at the start, and the names of its journal's cells
 pub record RunningStore : Type 0 where

@@ -2,12 +2,12 @@
 use Rattle.std.specs.Prelude.{◌≡◌, ℕ, List, Some}
 use Rattle.tg_rows.specs.Rows.{Entries}
 use Rattle.tg_graph.specs.GraphOf.{graph_of}
-use Rattle.tg_store.specs.declared.answers.Answered.{Answered}
+use Rattle.tg_hall.specs.declared.answers.Answered.{Answered}
 use Rattle.tg_store.specs.declared.outcomes.CommitFault.TheVariants.{Changed, Crowded}
 use Rattle.tg_store.specs.declared.weighing.Weighed.{Weighed}
 use Rattle.tg_store.specs.declared.weighing.Weighed.TheVariants.{Clear, Ends}
-use Rattle.tg_store.specs.Drafted.{IsDraftOf}
-use Rattle.tg_store.specs.Touches.{IsClear, IsSpoilt, IsOvercrowded}
+use Rattle.tg_hall.specs.Drafted.{IsDraftOf}
+use Rattle.tg_hall.specs.Touches.{IsClear, IsSpoilt, IsOvercrowded}
 
 -- what the record with these committed steps, at this place, is to a session that rests on the base; whether the record is true is not asked
 abbrev pub Weighs : Entries → ℕ → List Answered → List Answered → Weighed → Type 0

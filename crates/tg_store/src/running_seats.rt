@@ -6,20 +6,19 @@ ghost use Rattle.tg_graph.specs.GraphOf.{graph_of};
 ghost use Rattle.tg_journal.specs.Pass.{IsPass};
 ghost use Rattle.tg_journal.specs.Lists.{Begins};
 ghost use Rattle.tg_graph.specs.Drafts.{Fits, laid_over};
-ghost use Rattle.tg_store.specs.Answers.{AreAnswers, after_steps};
-ghost use Rattle.tg_store.specs.Drafted.{drafted};
+ghost use Rattle.tg_hall.specs.Answers.{AreAnswers, after_steps};
+ghost use Rattle.tg_hall.specs.Drafted.{drafted};
 ghost use Rattle.tg_store.specs.Offers.{OfferSays};
 ghost use Rattle.tg_store.specs.Running.{RunningSeat, seat_number, seat_from, seen_graph, IsSeat, KnowsNoMore, GoesOn, PutsNothing};
 ghost use Rattle.tg_store.specs.Outcomes.{FindsForeign, HasSeenLonger, MeetingEnds};
 ghost use Rattle.tg_store.specs.declared.outcomes.StoreMeetFault.TheVariants as StoreMeetFault;
 ghost use Rattle.tg_store.specs.Looks.{is_found, LookSays};
 
-use crate::records::Record;
-use crate::replays;
 use std::alloc::{AllocError, Global};
 use std::marker::Model;
 use std::sync::Arc;
 use tg_graph::{Draft, Graph, Ready};
+use tg_hall::Record;
 use tg_journal::{Front, Journal, MeetFault, Next, Pass, Put};
 
 /// A seat of a running store, for one thread. `Store::start` makes it, and it stays with that
@@ -206,7 +205,7 @@ impl Seat {
         ensures err { OnErr result (self.new ≡ self.old) }
         ensures seat { IsSeat self.new }
     {
-        replays::merge(&mut self.graph, draft)?;
+        tg_hall::merge(&mut self.graph, draft)?;
         self.taken += 1;
         Ok(())
     }
@@ -223,7 +222,7 @@ impl Seat {
         let Some(stored) = journal.at(&self.pass, self.taken) else {
             unreachable!()
         };
-        replays::lay_all(&mut self.graph, stored.steps.as_slice())?;
+        tg_hall::lay_all(&mut self.graph, stored.steps.as_slice())?;
         self.taken += 1;
         Ok(())
     }

@@ -1,8 +1,8 @@
 //! The sessions of a running store.
 ghost use Rattle.std.specs.Prelude.{◌≡◌, ◌∷◌, ◌++◌, ◌<◌, [], IfOk, OnErr, length};
 ghost use Rattle.tg_graph.specs.GraphOf.{graph_of};
-ghost use Rattle.tg_store.specs.StepWords.{IsNamedStep};
-ghost use Rattle.tg_store.specs.Answers.{IsAnswer, after_steps};
+ghost use Rattle.tg_hall.specs.StepWords.{IsNamedStep};
+ghost use Rattle.tg_hall.specs.Answers.{IsAnswer, after_steps};
 ghost use Rattle.tg_store.specs.Running.{RunningSession, IsSeat, IsSession, KnowsNoMore};
 ghost use Rattle.tg_store.specs.Outcomes.{BeginSays, CommitSays, CommitFaultSays};
 ghost use Rattle.tg_store.specs.Attempts.{AttemptSays, EndsBy, IsNext};
@@ -11,16 +11,13 @@ ghost use Rattle.tg_store.specs.declared.outcomes.Committed.TheVariants as Commi
 ghost use Rattle.tg_store.specs.declared.running_sessions.Attempt.TheVariants as Attempt;
 ghost use Rattle.tg_store.specs.declared.weighing.Weighed.TheVariants as Weighed;
 
-use crate::answers::Steps;
 use crate::outcomes::{CommitFault, Committed, Receipt};
-use crate::records::Record;
 use crate::running_seats::{Look, Offered, Seat};
-use crate::seats::OpenSession;
-use crate::weighing::Weighed;
-use crate::{replays, weighing};
+use crate::weighing::{self, Weighed};
 use std::alloc::AllocError;
 use std::marker::Model;
 use tg_graph::{Draft, Reply, Step};
+use tg_hall::{OpenSession, Record, Steps};
 use tg_journal::{Journal, Put};
 
 /// An open session at a seat of a running store.
@@ -32,7 +29,7 @@ pub struct Session {
 
 impl Model for Session {
     ghost use Rattle.tg_store.specs.Running.{RunningSession};
-    ghost use Rattle.tg_store.specs.Seats.{IsSessionOn};
+    ghost use Rattle.tg_hall.specs.Seats.{IsSessionOn};
 
     ghost Value = { RunningSession };
 

@@ -5,22 +5,21 @@ ghost use Rattle.std.specs.Option.{option_copied};
 ghost use Rattle.tg_graph.specs.GraphOf.{graph_of};
 ghost use Rattle.tg_journal.specs.Lists.{Begins};
 ghost use Rattle.tg_journal.specs.Pass.{PassState, IsPass};
-ghost use Rattle.tg_store.specs.declared.records.Record.{Record};
-ghost use Rattle.tg_store.specs.Histories.{IsLegal};
-ghost use Rattle.tg_store.specs.Worlds.{opening_fault};
+ghost use Rattle.tg_hall.specs.declared.records.Record.{Record};
+ghost use Rattle.tg_hall.specs.Histories.{IsLegal};
+ghost use Rattle.tg_hall.specs.Worlds.{opening_fault};
 ghost use Rattle.tg_store.specs.Running.{RunningSeat, IsOf, IsSeat, GoesOn, PutsNothing, seat_number, seat_from, first_seat};
 ghost use Rattle.tg_store.specs.Outcomes.{told_fault, StartFaultSays, BeginSays, CommitSays, MeetFaultSays, HasSeenLonger, MeetingEnds};
 ghost use Rattle.tg_store.specs.Agreed.{has_number, AreOfSeats, AreAgreed};
 
-use crate::events::StoreFault;
 use crate::outcomes::{BeginFault, Begun, Committed, StoreMeetFault};
-use crate::records::Record;
 use crate::running_seats::Seat;
 use crate::running_sessions::Session;
 use std::alloc::{AllocError, Global};
 use std::marker::Model;
 use std::sync::Arc;
 use tg_graph::{Graph, MOST_VERTICES};
+use tg_hall::{Record, StoreFault};
 use tg_journal::{Front, Journal, JournalFault, Pass};
 
 /// A monitor for running threads: a journal that they fill together, and a seat for each of them.

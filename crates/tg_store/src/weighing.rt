@@ -3,18 +3,17 @@ ghost use Rattle.std.specs.Prelude.{◌≡◌, ◌↔◌, ◌<◌, ◌+◌, All,
 ghost use Rattle.tg_graph.specs.Drafts.{Fits};
 ghost use Rattle.tg_graph.specs.GraphOf.{graph_of};
 ghost use Rattle.tg_graph.specs.Limits.{most_vertices};
-ghost use Rattle.tg_store.specs.StepWords.{IsNamedStep};
-ghost use Rattle.tg_store.specs.Answers.{AreAnswers, after_step};
-ghost use Rattle.tg_store.specs.Drafted.{drafted, GainsRows, IsDraftOf};
-ghost use Rattle.tg_store.specs.Touches.{touches, step_writes, spoiler};
-ghost use Rattle.tg_store.specs.Told.{tells_creation};
+ghost use Rattle.tg_hall.specs.StepWords.{IsNamedStep};
+ghost use Rattle.tg_hall.specs.Answers.{AreAnswers, after_step};
+ghost use Rattle.tg_hall.specs.Drafted.{drafted, GainsRows, IsDraftOf};
+ghost use Rattle.tg_hall.specs.Touches.{touches, step_writes, spoiler};
+ghost use Rattle.tg_hall.specs.Told.{tells_creation};
 ghost use Rattle.tg_store.specs.Weighing.{Weighs};
 
-use crate::answers::Answered;
 use crate::outcomes::CommitFault;
-use crate::{replays, spoilers};
 use std::alloc::AllocError;
 use tg_graph::{Draft, Graph, MOST_VERTICES, Name, Step};
+use tg_hall::Answered;
 
 /// What a record is to a session.
 #[derive(Drop)]
@@ -45,8 +44,8 @@ fn lay_watched(
 {
     match *step {
         Step::Do(rule) => {
-            let reply = replays::carry_out(base, draft, &rule)?;
-            Ok(spoilers::spoiler_in(&Answered::new(*step, reply), session))
+            let reply = tg_hall::carry_out(base, draft, &rule)?;
+            Ok(tg_hall::spoiler_in(&Answered::new(*step, reply), session))
         }
         Step::Holds { .. } | Step::Share { .. } => Ok(None),
     }
@@ -86,7 +85,7 @@ fn overfills(base: &Graph, draft: &Draft, session: &[Answered]) -> bool
 {
     base.len()
         .saturating_add(draft.created())
-        .saturating_add(spoilers::creation_count(session))
+        .saturating_add(tg_hall::creation_count(session))
         > MOST_VERTICES
 }
 

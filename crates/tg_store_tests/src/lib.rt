@@ -1,4 +1,4 @@
-//! The tests of `tg_store`, which stand apart from it so that it is proved once.
+//! The tests of `tg_hall` and `tg_store`, which stand apart from them so that these are proved once.
 #![tactic(auto)]
 
 #[cfg(test)]

@@ -2,9 +2,9 @@
 ghost use Rattle.std.specs.Prelude.{IfSome};
 ghost use Rattle.tg_graph.specs.Rules.{rights_of};
 ghost use Rattle.tg_names.specs.Sets.{IsNamed};
-ghost use Rattle.tg_store.specs.Acts.{IsStageableAct};
-ghost use Rattle.tg_store.specs.StepWords.{IsNamedStep};
-ghost use Rattle.tg_store.specs.Worlds.{IsStageable};
+ghost use Rattle.tg_hall.specs.Acts.{IsStageableAct};
+ghost use Rattle.tg_hall.specs.StepWords.{IsNamedStep};
+ghost use Rattle.tg_hall.specs.Worlds.{IsStageable};
 
 use std::process::Abort;
 use tg_graph::{Act, Name, Refusal, Reply, Right, Rights, Rule, Step};

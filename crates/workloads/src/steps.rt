@@ -1,6 +1,6 @@
 //! The steps of sessions.
 ghost use Rattle.std.specs.Prelude.{◌≡◌};
-ghost use Rattle.tg_store.specs.StepWords.{IsNamedStep};
+ghost use Rattle.tg_hall.specs.StepWords.{IsNamedStep};
 
 use crate::chance::Chance;
 use crate::texts::any;

@@ -1,6 +1,6 @@
 use Rattle.std.proofs.Common.{length, refl, sym, ap, subst, ◌++◌, ◌∙◌}
-use Rattle.tg_store.specs.Acts.{Acts}
-use Rattle.tg_store.specs.Worlds.{World}
+use Rattle.tg_hall.specs.Acts.{Acts}
+use Rattle.tg_hall.specs.Worlds.{World}
 use Rattle.tg_plays.specs.Runs.{outcome_line}
 use Rattle.tg_plays.proofs.ActLemmas.{acts_keep, acts_told}
 use Rattle.tg_plays.proofs.running.play_event.Goals as goal

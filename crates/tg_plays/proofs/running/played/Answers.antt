@@ -1,8 +1,8 @@
 use Rattle.std.proofs.Common.{refl, sym, ap, subst, ◌∙◌, ◌++◌}
 use Rattle.tg_graph.specs.GraphOf.{graph_of}
 use Rattle.tg_text.specs.Canonical.{canonical_text}
-use Rattle.tg_store.specs.Histories.{replay, IsLegal}
-use Rattle.tg_store.specs.Worlds.{World}
+use Rattle.tg_hall.specs.Histories.{replay, IsLegal}
+use Rattle.tg_hall.specs.Worlds.{World}
 use Rattle.tg_plays.specs.Runs.{Plays}
 use Rattle.tg_plays.proofs.ScriptLemmas.{plays_keep}
 use Rattle.tg_plays.proofs.running.played.Goals as goal

@@ -4,11 +4,11 @@ use Rattle.std.specs.List.{list_any}
 use Rattle.std.proofs.lemmas.List.{take_more}
 use Rattle.tg_names.specs.Names.{same_name}
 use Rattle.tg_graph.specs.GraphOf.{graph_of}
-use Rattle.tg_store.specs.Answers.{after_step}
-use Rattle.tg_store.specs.Drafted.{drafted}
-use Rattle.tg_store.specs.Touches.{touches, step_writes, writes, spoiler}
-use Rattle.tg_store.proofs.Ordered.{after_steps-more}
-use Rattle.tg_store.proofs.Commuting.{rows-more}
+use Rattle.tg_hall.specs.Answers.{after_step}
+use Rattle.tg_hall.specs.Drafted.{drafted}
+use Rattle.tg_hall.specs.Touches.{touches, step_writes, writes, spoiler}
+use Rattle.tg_hall.proofs.Ordered.{after_steps-more}
+use Rattle.tg_hall.proofs.Commuting.{rows-more}
 use Rattle.tg_store.proofs.Weighed.{none_of, spoilt-here, spoilt-later, Watched, watched-none}
 use Rattle.tg_store.proofs.weighing.lay_all_watched.Goals as goal
 

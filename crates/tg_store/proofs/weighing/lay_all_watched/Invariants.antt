@@ -4,9 +4,9 @@ use Rattle.tg_names.specs.Names.{Name, same_name}
 use Rattle.tg_rows.specs.Rows.{is_known}
 use Rattle.tg_graph.specs.GraphOf.{graph_of}
 use Rattle.tg_graph.specs.Drafts.{Fits}
-use Rattle.tg_store.specs.Answers.{after_steps}
-use Rattle.tg_store.specs.Touches.{writes, spoiler}
-use Rattle.tg_store.specs.Drafted.{drafted}
+use Rattle.tg_hall.specs.Answers.{after_steps}
+use Rattle.tg_hall.specs.Touches.{writes, spoiler}
+use Rattle.tg_hall.specs.Drafted.{drafted}
 use Rattle.tg_store.proofs.weighing.lay_all_watched.Given as goal
 
 abbrev pub invariant-loop-answered : goal.invariant-loop-answered

@@ -1,7 +1,7 @@
 use Rattle.std.proofs.Common.{◌≡◌, None, refl, sym, ◌∙◌}
 use Rattle.std.proofs.lemmas.Bool.{false≢true}
 use Rattle.tg_graph.specs.GraphOf.{graph_of}
-use Rattle.tg_store.specs.Touches.{spoiler}
+use Rattle.tg_hall.specs.Touches.{spoiler}
 use Rattle.tg_store.proofs.Weighed.{crowds-with}
 use Rattle.tg_store.proofs.weighing.weigh.Goals as goal
 

@@ -1,8 +1,8 @@
 use Rattle.std.proofs.Common.{◌≡◌, length, ◌+◌, sym, ap, subst, ◌∙◌}
 use Rattle.tg_graph.specs.GraphOf.{graph_of}
 use Rattle.tg_graph.specs.Drafts as drafts
-use Rattle.tg_store.specs.Answers.{AreAnswers, after_steps}
-use Rattle.tg_store.specs.Drafted.{drafted}
+use Rattle.tg_hall.specs.Answers.{AreAnswers, after_steps}
+use Rattle.tg_hall.specs.Drafted.{drafted}
 use Rattle.tg_store.specs.Running.{RunningSeat}
 use Rattle.tg_store.specs.Offers.{OfferSays}
 use Rattle.tg_store.specs.declared.running_seats.Offered.TheVariants.{Won, Back}

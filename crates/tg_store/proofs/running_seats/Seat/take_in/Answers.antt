@@ -1,6 +1,6 @@
 use Rattle.std.proofs.Common.{◌≡◌, ◌+◌, ◌<◌, length, sym, ap, subst, ◌∙◌, arith}
 use Rattle.tg_graph.specs.GraphOf.{graph_of}
-use Rattle.tg_store.specs.Drafted.{drafted}
+use Rattle.tg_hall.specs.Drafted.{drafted}
 use Rattle.tg_store.specs.Running.{RunningSeat, seen_graph}
 use Rattle.tg_store.proofs.RunningSeats.{seat-at}
 use Rattle.tg_store.proofs.running_seats.Seat.take_in.Goals as goal

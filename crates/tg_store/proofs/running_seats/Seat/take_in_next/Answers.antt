@@ -1,6 +1,6 @@
 use Rattle.std.proofs.Common.{◌+◌, ◌<◌, length, sym, ap, subst, ◌∙◌, arith}
 use Rattle.tg_graph.specs.GraphOf.{graph_of}
-use Rattle.tg_store.specs.Answers.{after_steps}
+use Rattle.tg_hall.specs.Answers.{after_steps}
 use Rattle.tg_store.specs.Running.{RunningSeat}
 use Rattle.tg_store.proofs.RunningSeats.{seat-at}
 use Rattle.tg_store.proofs.RunningSessions.{next-graph}

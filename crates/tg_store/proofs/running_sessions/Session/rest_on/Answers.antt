@@ -4,10 +4,10 @@ use Rattle.std.specs.Map.{keys_of}
 use Rattle.tg_store.specs.declared.weighing.Weighed.TheVariants.{Clear}
 use Rattle.tg_store.specs.declared.running_sessions.Attempt.TheVariants.{Further}
 use Rattle.tg_graph.specs.Drafts.{laid_over}
-use Rattle.tg_store.specs.declared.seats.OpenSession.{OpenSession}
-use Rattle.tg_store.specs.Seats.{IsSessionOn, unknowing}
+use Rattle.tg_hall.specs.declared.seats.OpenSession.{OpenSession}
+use Rattle.tg_hall.specs.Seats.{IsSessionOn, unknowing}
 use Rattle.tg_store.specs.Attempts.{IsNext, AttemptSays}
-use Rattle.tg_store.proofs.SeatLemmas.{unknowing-clear}
+use Rattle.tg_hall.proofs.SeatLemmas.{unknowing-clear}
 use Rattle.tg_store.proofs.RunningSessions.{next-draft, rested}
 use Rattle.tg_store.proofs.running_sessions.Session.rest_on.Goals as goal
 

@@ -1,6 +1,6 @@
 use Rattle.std.proofs.Common.{◌≡◌, ℕ, ◌<◌, true, Some}
 use Rattle.std.specs.Prelude.{slice_get}
-use Rattle.tg_store.specs.declared.records.Record.{Record}
+use Rattle.tg_hall.specs.declared.records.Record.{Record}
 use Rattle.tg_store.specs.Agreed.{has_number}
 use Rattle.tg_store.proofs.stores.Store.all_own.Given as goal
 

@@ -1,5 +1,5 @@
 use Rattle.std.proofs.Common.{Some, sym, ap, ◌∙◌}
-use Rattle.tg_store.specs.Sameness.{record_same}
+use Rattle.tg_hall.specs.Sameness.{record_same}
 use Rattle.tg_store.proofs.Agreeing.{some_is}
 use Rattle.tg_store.proofs.stores.Store.same_at.Goals as goal
 

@@ -3,7 +3,7 @@ use Rattle.std.specs.Prelude.{slice_get}
 use Rattle.std.specs.Option.{option_map}
 use Rattle.std.proofs.lemmas.Option.{slice_get-map, get_or_from_slice_get}
 use Rattle.tg_journal.specs.Pass.{PassState, fresh}
-use Rattle.tg_store.specs.declared.records.Record.{Record}
+use Rattle.tg_hall.specs.declared.records.Record.{Record}
 use Rattle.tg_store.specs.Running.{seat_from}
 use Rattle.tg_store.proofs.stores.Store.start.Goals as goal
 
