@@ -18,7 +18,6 @@ mod trails;
 pub use answers::{Answered, Steps};
 pub use events::{Event, HallFault, HallReply, StoreFault};
 pub use halls::Hall;
-pub use knowing::Known;
 pub use records::Record;
 pub use replays::{carry_out, lay_all, merge};
 pub use seats::OpenSession;

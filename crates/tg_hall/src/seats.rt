@@ -111,8 +111,16 @@ impl OpenSession {
         }
     }
 
+    /// Whether something is known that takes memory.
+    pub fn knows_any(&self) -> bool
+        ensures { result ≡ knows_any self.now.known }
+    {
+        self.known.knows_any()
+    }
+
     /// Gives up what is known, and says whether that took memory.
     pub fn give_up(&mut self) -> bool
+        ensures took { result ≡ knows_any self.old.known }
         ensures value { self.new ≡ unknowing self.old }
         ensures on { (base : Entries) → IsSessionOn base self.old → IsSessionOn base self.new }
     {

@@ -375,6 +375,7 @@ pub struct TableWork {
 pub fn table_in(alloc: Global, text: &[u8], right: &str, workers: u64) -> Result<TableWork, Halt>
     ensures made { Brings table_question_of result (table_in text.now right.now workers) }
     ensures possible { IfOk result IsTableWork }
+    ensures workers { IfOk result (λ work. work.workers ≡ workers) }
 {
     let graph = graph_in(alloc, text)?;
     let right = right_in(alloc, right)?;

@@ -98,7 +98,7 @@ impl Session {
 
     /// Whether it knows something that takes memory.
     pub fn knows_any(&self) -> bool {
-        self.staged.known.knows_any()
+        self.staged.knows_any()
     }
 
     // The same session, which knows nothing that takes memory.
