@@ -6,7 +6,7 @@ use Rattle.std.proofs.lemmas.List.{append-nil}
 use Rattle.tg_names.specs.Names.{Name}
 use Rattle.tg_graph.specs.Graphs.{ProtectionGraph, has_vertex}
 use Rattle.tg_graph.specs.Limits.{most_vertices}
-use Rattle.tg_text.specs.Reading.{◌>>=◌}
+use Rattle.tg_words.specs.Reading.{◌>>=◌}
 use Rattle.tg_islands.specs.declared.questions.AskFault.{AskFault}
 use Rattle.tg_islands.specs.declared.questions.AskFault.TheVariants.{Unknown, TooLarge}
 use Rattle.tg_cuts.specs.declared.kept.Ends.{Ends}

@@ -4,7 +4,7 @@ use Rattle.std.specs.List.{onto_first, position_or_len, before_first, after_firs
 use Rattle.std.proofs.lemmas.Bool.{false≢true}
 use Rattle.std.proofs.lemmas.List.{append-nil, drop_all}
 use Rattle.std.proofs.Math.Seq.{take-append_seam, drop-append-add, take-length}
-use Rattle.tg_text.specs.Lines.{lines_of}
+use Rattle.tg_words.specs.Lines.{lines_of}
 use Rattle.tg_inputs.specs.Parts.{text_of, parts_texts, graph_part, rules_part}
 
 -- no line feed is among the bytes

@@ -8,9 +8,9 @@ use Rattle.tg_graph.specs.declared.rules.Refusal.{Refusal}
 use Rattle.tg_graph.specs.declared.session.Reply.TheVariants.{Done}
 use Rattle.tg_graph.specs.Graphs.{ProtectionGraph}
 use Rattle.tg_graph.specs.Rules.{refusal_of, after}
-use Rattle.tg_text.specs.declared.faults.TextKind.{TextKind}
+use Rattle.tg_words.specs.declared.faults.TextKind.{TextKind}
 use Rattle.tg_text.specs.declared.rule_text.RuleLine.{RuleLine}
-use Rattle.tg_text.specs.Reading.{◌>>=◌}
+use Rattle.tg_words.specs.Reading.{◌>>=◌}
 use Rattle.tg_text.specs.RuleText.{rules_text, rules_make}
 use Rattle.tg_inputs.specs.Readings.{from_text}
 use Rattle.tg_inputs.specs.Replies.{Played, played, played_first, reply_line}

@@ -1,7 +1,7 @@
 -- What the words of a command line ask for.
 use Rattle.std.specs.Prelude.{ℕ, ◌*◌, Bool, true, false, ◌&&◌, List, [], ◌∷◌, length, map, nat_lt, nat_le, bytes_eq, codes, if◌then◌else◌, Option, Some, None}
 use Rattle.std.specs.Option.{option_map}
-use Rattle.tg_text.specs.Words.{with_digits}
+use Rattle.tg_words.specs.Words.{with_digits}
 use Rattle.tg_inputs.specs.declared.words.Command.{Command}
 use Rattle.tg_inputs.specs.declared.words.Command.TheVariants as command
 use Rattle.tg_inputs.specs.declared.words.Call.{Call}

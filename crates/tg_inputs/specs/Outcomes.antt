@@ -22,7 +22,7 @@ use Rattle.tg_inputs.specs.declared.inputs.TableWork.{TableWork}
 use Rattle.tg_inputs.specs.declared.inputs.WhoQuestion.{WhoQuestion}
 use Rattle.tg_inputs.specs.declared.inputs.ReachQuestion.{ReachQuestion}
 use Rattle.tg_inputs.specs.declared.inputs.CutQuestion.{CutQuestion}
-use Rattle.tg_text.specs.Reading.{◌>>=◌}
+use Rattle.tg_words.specs.Reading.{◌>>=◌}
 use Rattle.tg_inputs.specs.declared.playing.AppliedRules.{AppliedRules}
 use Rattle.tg_inputs.specs.Readings.{ReportText, rules_in, Question as Asked, TableQuestion, WhoQuestion as WhoAsked, ReachQuestion as ReachAsked, CutQuestion as CutAsked}
 use Rattle.tg_inputs.specs.Replies.{Played, played, reply_line}

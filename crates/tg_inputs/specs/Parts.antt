@@ -1,8 +1,8 @@
 -- The two texts of an input that holds a graph and rules.
 use Rattle.std.specs.Prelude.{ℕ, nat_le, Bool, false, ◌&&◌, List, [], ◌∷◌, ◌++◌, length, codes, bytes_eq}
 use Rattle.std.specs.List.{flat_map, before_first, after_first}
-use Rattle.tg_text.specs.Limits.{most_line_bytes}
-use Rattle.tg_text.specs.Lines.{lines_of, words_of}
+use Rattle.tg_words.specs.Limits.{most_line_bytes}
+use Rattle.tg_words.specs.Lines.{lines_of, words_of}
 
 -- whether these words are one alone
 abbrev pub is_alone : List ℕ → List (List ℕ) → Bool

@@ -5,16 +5,16 @@ use Rattle.tg_names.specs.declared.right_sets.Rights.{Rights}
 use Rattle.tg_names.specs.Letters.{set_of_letters}
 use Rattle.tg_names.specs.Names.{name_of, Name}
 use Rattle.tg_graph.specs.Graphs.{ProtectionGraph, has_vertex}
-use Rattle.tg_text.specs.declared.faults.TextKind.{TextKind}
-use Rattle.tg_text.specs.declared.faults.TextKind.TheVariants as kind
+use Rattle.tg_words.specs.declared.faults.TextKind.{TextKind}
+use Rattle.tg_words.specs.declared.faults.TextKind.TheVariants as kind
 use Rattle.tg_text.specs.declared.rule_text.RuleLine.{RuleLine}
-use Rattle.tg_text.specs.Reading.{◌>>=◌}
-use Rattle.tg_text.specs.Words.{right_of}
+use Rattle.tg_words.specs.Reading.{◌>>=◌}
+use Rattle.tg_words.specs.Words.{right_of}
 use Rattle.tg_text.specs.GraphText.{graph_text}
 use Rattle.tg_text.specs.RuleText.{rules_text}
 use Rattle.tg_text.specs.ScriptText.{ScriptOf, script_text}
 use Rattle.tg_text.specs.PolicyText.{PolicyLineOf, policy_text}
-use Rattle.tg_text.specs.Canonical.{line_of}
+use Rattle.tg_words.specs.Spelling.{line_of}
 use Rattle.tg_analysis.specs.Tables.{most_workers}
 use Rattle.tg_cuts.specs.declared.kept.Ends.{Ends}
 

@@ -6,8 +6,7 @@ use Rattle.tg_graph.specs.declared.session.Reply.TheVariants.{Done, Refused}
 use Rattle.tg_graph.specs.Graphs.{ProtectionGraph}
 use Rattle.tg_graph.specs.Rules.{refusal_of, after}
 use Rattle.tg_text.specs.declared.rule_text.RuleLine.{RuleLine}
-use Rattle.tg_text.specs.Spelling.{reply_words}
-use Rattle.tg_text.specs.Canonical.{line_of}
+use Rattle.tg_words.specs.Spelling.{reply_words, line_of}
 
 -- the line of a reply, after the number of the rule's own line
 abbrev pub reply_line : ℕ → Reply → List ℕ

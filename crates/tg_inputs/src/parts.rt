@@ -1,6 +1,6 @@
 //! The two texts of an input that holds a graph and rules.
 ghost use Rattle.std.specs.Prelude.{◌≡◌};
-ghost use Rattle.tg_text.specs.Lines.{lines_of};
+ghost use Rattle.tg_words.specs.Lines.{lines_of};
 ghost use Rattle.tg_inputs.specs.Parts.{parts_texts, graph_part, rules_part};
 
 use tg_text::{MOST_LINE_BYTES, cut_line, cut_word};

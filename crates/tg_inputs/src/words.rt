@@ -3,7 +3,7 @@ ghost use Rattle.std.specs.Prelude.{◌≡◌, map};
 ghost use Rattle.std.specs.Option.{option_map};
 ghost use Rattle.tg_inputs.specs.Calls.{call_of, call_words, command_of, command_words, graph_command, text_command, texts_call, table_command, two_words_call, question, are_kept, cut_command, workers_of};
 ghost use Rattle.std.specs.Prelude.{◌≤◌, length};
-ghost use Rattle.tg_text.specs.Words.{is_digit, with_digits};
+ghost use Rattle.tg_words.specs.Words.{is_digit, with_digits};
 
 // How many workers make a table where the words do not say it.
 const USUAL_WORKERS: u64 = 4;

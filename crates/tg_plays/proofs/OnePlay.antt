@@ -24,7 +24,8 @@ use Rattle.tg_hall.specs.declared.events.HallFault.TheVariants.{NoSeat, AlreadyO
 use Rattle.tg_hall.specs.Answers.{IsAnswer, after_steps}
 use Rattle.tg_hall.specs.Touches.{IsClear, IsSpoilt, IsOvercrowded}
 use Rattle.tg_text.specs.ScriptText.{ScriptOf}
-use Rattle.tg_text.specs.Canonical.{line_of, canonical_text}
+use Rattle.tg_text.specs.Canonical.{canonical_text}
+use Rattle.tg_words.specs.Spelling.{line_of}
 use Rattle.tg_hall.specs.Histories.{replay}
 use Rattle.tg_hall.specs.Worlds.{World, opened, SeatView, seat_of, seat_in, rests_on, with_seat, with_session, one_further, Opens, TakesIn, Learns, Says, Joins, Moves, Happens, Run}
 use Rattle.tg_hall.specs.Acts.{is_learned, is_free, Repeats, OpensAfter, CatchesUp, Acts}

@@ -9,7 +9,8 @@ use Rattle.tg_graph.specs.Graphs.{ProtectionGraph}
 use Rattle.tg_graph.specs.GraphOf.{graph_of}
 use Rattle.tg_text.specs.declared.script_text.ScriptLine.{ScriptLine}
 use Rattle.tg_text.specs.ScriptText.{ScriptOf}
-use Rattle.tg_text.specs.Canonical.{line_of, canonical_text}
+use Rattle.tg_text.specs.Canonical.{canonical_text}
+use Rattle.tg_words.specs.Spelling.{line_of}
 use Rattle.tg_journal.specs.Lists.{Begins}
 use Rattle.tg_journal.specs.Pass.{KnowsAt}
 use Rattle.tg_hall.specs.declared.answers.Answered.{Answered}

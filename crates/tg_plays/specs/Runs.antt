@@ -4,10 +4,10 @@ use Rattle.tg_graph.specs.Graphs.{ProtectionGraph}
 use Rattle.tg_rows.specs.Rows.{Entries}
 use Rattle.tg_graph.specs.GraphOf.{graph_of}
 use Rattle.tg_text.specs.declared.script_text.ScriptLine.{ScriptLine}
-use Rattle.tg_text.specs.Reading.{◌>>=◌}
+use Rattle.tg_words.specs.Reading.{◌>>=◌}
 use Rattle.tg_text.specs.ScriptText.{ScriptOf}
-use Rattle.tg_text.specs.Spelling.{reply_words}
-use Rattle.tg_text.specs.Canonical.{line_of, canonical_text}
+use Rattle.tg_words.specs.Spelling.{reply_words, line_of}
+use Rattle.tg_text.specs.Canonical.{canonical_text}
 use Rattle.tg_hall.specs.declared.events.HallFault.{HallFault}
 use Rattle.tg_hall.specs.declared.events.HallFault.TheVariants.{NoSeat, AlreadyOpen, NotOpen, Changed, Crowded, JournalFull, Memory}
 use Rattle.tg_hall.specs.declared.events.HallReply.{HallReply}

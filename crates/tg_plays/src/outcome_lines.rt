@@ -1,6 +1,6 @@
 //! The outcomes of acts, as lines.
 ghost use Rattle.std.specs.Prelude.{◌≡◌, ◌++◌, ◌<◌, OnOk, length, decimal};
-ghost use Rattle.tg_text.specs.Spelling.{spaced};
+ghost use Rattle.tg_words.specs.Spelling.{spaced};
 ghost use Rattle.tg_plays.specs.Runs.{fault_words, outcome_words, outcome_line};
 ghost use Rattle.tg_plays.specs.RunParts.{MayBeTold, MayBeToldFault};
 

@@ -1,7 +1,6 @@
 //! The outcomes of a race's events, as lines.
 ghost use Rattle.std.specs.Prelude.{◌≡◌, ◌++◌, ◌<◌, length, OnOk};
-ghost use Rattle.tg_text.specs.Canonical.{line_of};
-ghost use Rattle.tg_text.specs.Spelling.{spaced};
+ghost use Rattle.tg_words.specs.Spelling.{spaced, line_of};
 ghost use Rattle.tg_plays.specs.Races.{race_words, race_line};
 ghost use Rattle.tg_plays.specs.RaceParts.{MayBeToldInRace};
 

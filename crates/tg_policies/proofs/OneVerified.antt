@@ -9,7 +9,7 @@ use Rattle.tg_graph.specs.Graphs.{ProtectionGraph}
 use Rattle.tg_text.specs.declared.policy_text.Claim.{Claim}
 use Rattle.tg_text.specs.declared.policy_text.Claim.TheVariants as claim
 use Rattle.tg_text.specs.PolicyText.{PolicyLineOf}
-use Rattle.tg_text.specs.Canonical.{line_of}
+use Rattle.tg_words.specs.Spelling.{line_of}
 use Rattle.tg_analysis.specs.declared.cases.Case.{Case}
 use Rattle.tg_analysis.specs.Derivations.{IsDerivation}
 use Rattle.tg_inputs.specs.Readings.{ReportText}

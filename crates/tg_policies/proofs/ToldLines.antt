@@ -14,7 +14,7 @@ use Rattle.tg_text.specs.declared.policy_text.Claim.{Claim}
 use Rattle.tg_text.specs.declared.policy_text.Claim.TheVariants as claim
 use Rattle.tg_text.specs.declared.policy_text.PolicyLine.{PolicyLine}
 use Rattle.tg_text.specs.PolicyText.{PolicyLineOf, line_of_policy, policy_of, lacks_vertex, IsKnown, ArePolicyLines}
-use Rattle.tg_text.specs.Canonical.{line_of}
+use Rattle.tg_words.specs.Spelling.{line_of}
 use Rattle.tg_analysis.specs.declared.cases.Case.{Case}
 use Rattle.tg_policies.specs.declared.groups.Groups.{Groups}
 use Rattle.tg_policies.specs.declared.verdicts.Verdicts.{Verdicts}

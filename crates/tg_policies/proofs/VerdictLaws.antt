@@ -13,7 +13,7 @@ use Rattle.tg_graph.specs.Graphs.{ProtectionGraph}
 use Rattle.tg_text.specs.declared.policy_text.Operand.{Operand}
 use Rattle.tg_text.specs.declared.policy_text.Claim.{Claim}
 use Rattle.tg_text.specs.PolicyText.{PolicyLineOf}
-use Rattle.tg_text.specs.Canonical.{line_of}
+use Rattle.tg_words.specs.Spelling.{line_of}
 use Rattle.tg_analysis.specs.declared.cases.Case.{Case}
 use Rattle.tg_inputs.specs.Readings.{ReportText}
 use Rattle.tg_policies.specs.Policies.{Membership, no_members, members_after, members_behind, IsBelow, ComesBefore, ByRight, ByFirst, BySecond, IsVerdict, Finding, IsFinding, AreFindings, told_of, told_of_all, broken_count, verified_report, Holds, AllHold, IsKept, KeptExactly, VerdictsAreOne}

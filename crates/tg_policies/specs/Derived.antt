@@ -1,7 +1,7 @@
 -- A derivation as a text.
 use Rattle.std.specs.Prelude.{List, [], ◌∷◌, ◌++◌, length, codes, decimal}
 use Rattle.tg_graph.specs.declared.rules.Rule.{Rule}
-use Rattle.tg_text.specs.Canonical.{line_of}
+use Rattle.tg_words.specs.Spelling.{line_of}
 use Rattle.tg_text.specs.RoundTrips.{lines_of_rules}
 use Rattle.tg_inputs.specs.Readings.{ReportText}
 

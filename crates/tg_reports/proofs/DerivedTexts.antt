@@ -10,11 +10,11 @@ use Rattle.tg_graph.specs.Rules.{after}
 use Rattle.tg_graph.specs.RuleWords.{IsRule}
 use Rattle.tg_graph.specs.RuleLists.{AllAccepted, after_all}
 use Rattle.tg_names.proofs.Digits.{name-decimal}
-use Rattle.tg_text.specs.declared.faults.TextKind.{TextKind}
+use Rattle.tg_words.specs.declared.faults.TextKind.{TextKind}
 use Rattle.tg_text.specs.GraphText.{graph_text}
-use Rattle.tg_text.specs.Limits.{most_line_bytes}
-use Rattle.tg_text.specs.Words.{Word}
-use Rattle.tg_text.specs.Spelling.{spaced}
+use Rattle.tg_words.specs.Limits.{most_line_bytes}
+use Rattle.tg_words.specs.Words.{Word}
+use Rattle.tg_words.specs.Spelling.{spaced}
 use Rattle.tg_text.specs.RuleText.{rules_text}
 use Rattle.tg_text.specs.RoundTrips.{lines_of_rules, on_lines}
 use Rattle.tg_text.proofs.PlainWords.{IsPlainWord, word_from_test, name_word}

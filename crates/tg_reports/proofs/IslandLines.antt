@@ -9,8 +9,8 @@ use Rattle.std.proofs.lemmas.List.Elements.{filter-append}
 use Rattle.std.proofs.lemmas.Slice.Eq.{bytes_eq-Decides}
 use Rattle.tg_names.specs.Names.{Name, same_name}
 use Rattle.tg_graph.specs.Graphs.{ProtectionGraph, has_vertex}
-use Rattle.tg_text.specs.Spelling.{spaced}
-use Rattle.tg_text.specs.Canonical.{in_name_order, line_of}
+use Rattle.tg_words.specs.Spelling.{spaced, line_of}
+use Rattle.tg_text.specs.Canonical.{in_name_order}
 use Rattle.tg_text.proofs.NameOrder.{among, among-in_order, absent, same_name-refl, Strict, strict-in_order}
 use Rattle.tg_islands.proofs.OneIsland.{island_refl, island_sym, island_trans, starts}
 use Rattle.tg_inputs.specs.Readings.{ReportText}

@@ -16,7 +16,7 @@ use Rattle.tg_inputs.specs.Parts.{graph_part, rules_part}
 use Rattle.tg_plays.specs.Runs.{playing_in, IsPlayed}
 use Rattle.tg_policies.specs.Policies.{IsVerified}
 use Rattle.tg_reports.specs.ReportLaws.{FindsRules, HasRules, ThereIsOneReport}
-use Rattle.tg_text.specs.Reading.{◌>>=◌}
+use Rattle.tg_words.specs.Reading.{◌>>=◌}
 use Rattle.tg_text.proofs.Steps.{bind_ok}
 use Rattle.tg_plays.proofs.OnePlay.{played_one}
 use Rattle.tg_reports.proofs.CutReports.{asked_read, for_cut}

@@ -8,8 +8,8 @@ use Rattle.tg_names.specs.Names.{IsName, Name, same_name}
 use Rattle.tg_names.specs.Sets.{member}
 use Rattle.tg_graph.specs.Graphs.{ProtectionGraph, has_vertex, WellFormed}
 use Rattle.tg_graph.specs.Rules.{with_vertex, with_rights}
-use Rattle.tg_text.specs.Lines.{lines_of, words_of, is_skipped}
-use Rattle.tg_text.specs.Words.{Word}
+use Rattle.tg_words.specs.Lines.{lines_of, words_of, is_skipped}
+use Rattle.tg_words.specs.Words.{Word}
 use Rattle.tg_text.specs.Grammar.{AreLines}
 use Rattle.tg_text.specs.GraphText.{GraphSoFar, graph_text, nothing_read}
 use Rattle.tg_text.specs.GraphGrammar.{IsGraphItem}

@@ -1,11 +1,11 @@
 -- Texts with the same lines have the same report.
 use Rattle.std.proofs.Common.{◌≡◌, ℕ, List, [], ◌∙◌, ap}
 use Rattle.std.specs.Prelude.{Result, Ok, codes}
-use Rattle.tg_text.specs.Lines.{lines_of}
-use Rattle.tg_text.specs.declared.faults.TextKind.{TextKind}
+use Rattle.tg_words.specs.Lines.{lines_of}
+use Rattle.tg_words.specs.declared.faults.TextKind.{TextKind}
 use Rattle.tg_text.specs.declared.rule_text.RuleLine.{RuleLine}
 use Rattle.tg_graph.specs.Graphs.{ProtectionGraph}
-use Rattle.tg_text.specs.Reading.{◌>>=◌, after_lines}
+use Rattle.tg_words.specs.Reading.{◌>>=◌, after_lines}
 use Rattle.tg_text.specs.GraphText.{graph_text, graph_item, nothing_read}
 use Rattle.tg_text.specs.RuleText.{rules_text, rule_item}
 use Rattle.tg_inputs.specs.Readings.{from_text, graph_in, rules_in}

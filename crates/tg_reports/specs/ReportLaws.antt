@@ -13,9 +13,10 @@ use Rattle.tg_graph.specs.Rules.{refusal_of}
 use Rattle.tg_graph.specs.RuleLists.{CanShare}
 use Rattle.tg_graph.specs.Additions.{Leads}
 use Rattle.tg_text.specs.declared.rule_text.RuleLine.{RuleLine}
-use Rattle.tg_text.specs.Limits.{most_rules}
+use Rattle.tg_words.specs.Limits.{most_rules}
 use Rattle.tg_text.specs.RuleText.{rules_text}
-use Rattle.tg_text.specs.Canonical.{canonical_text, in_name_order, line_of}
+use Rattle.tg_text.specs.Canonical.{canonical_text, in_name_order}
+use Rattle.tg_words.specs.Spelling.{line_of}
 use Rattle.tg_islands.specs.Sharing.{InOneIsland}
 use Rattle.tg_analysis.specs.Derivations.{IsDerivation}
 use Rattle.tg_islands.specs.Moves.{only}

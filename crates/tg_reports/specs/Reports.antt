@@ -9,8 +9,9 @@ use Rattle.tg_names.specs.Letters.{letters_of}
 use Rattle.tg_names.specs.Names.{Name, same_name}
 use Rattle.tg_graph.specs.Graphs.{ProtectionGraph, has_vertex}
 use Rattle.tg_graph.specs.RuleLists.{CanShare, CanShareAll}
-use Rattle.tg_text.specs.Reading.{◌>>=◌}
-use Rattle.tg_text.specs.Canonical.{line_of, canonical_text, in_name_order}
+use Rattle.tg_words.specs.Reading.{◌>>=◌}
+use Rattle.tg_text.specs.Canonical.{canonical_text, in_name_order}
+use Rattle.tg_words.specs.Spelling.{line_of}
 use Rattle.tg_text.specs.RoundTrips.{lines_of_rules}
 use Rattle.tg_islands.specs.Sharing.{InOneIsland}
 use Rattle.tg_analysis.specs.SetDerivations.{IsDerivationOfAll}

@@ -15,10 +15,10 @@ use Rattle.tg_graph.specs.declared.session.Act.{Act}
 use Rattle.tg_graph.specs.declared.session.Act.TheVariants.{Begin, Stage, Commit, Abort}
 use Rattle.tg_names.specs.Names.{name_of, Name}
 use Rattle.tg_names.specs.Letters.{set_of_letters}
-use Rattle.tg_text.specs.declared.faults.TextKind.{TextKind}
-use Rattle.tg_text.specs.declared.faults.TextKind.TheVariants.{BadWord, WordCount, BadNumber, BadName, BadRights, TooMany}
-use Rattle.tg_text.specs.Words.{Word, is_word, one_word, value_or, number_of, at_most, number_up_to, right_of, header_number}
-use Rattle.tg_text.specs.Reading.{◌>>=◌}
+use Rattle.tg_words.specs.declared.faults.TextKind.{TextKind}
+use Rattle.tg_words.specs.declared.faults.TextKind.TheVariants.{BadWord, WordCount, BadNumber, BadName, BadRights, TooMany}
+use Rattle.tg_words.specs.Words.{Word, is_word, one_word, value_or, number_of, at_most, number_up_to, right_of, header_number}
+use Rattle.tg_words.specs.Reading.{◌>>=◌}
 use Rattle.tg_text.specs.RuleText.{two_names, three_names, rule_of_words}
 use Rattle.tg_text.specs.ScriptText.{right_and_names, act_alone, act_of_words, seated, event_of_words}
 use Rattle.tg_text.specs.Forms.{Form, form_in, rule_forms, act_forms, event_form, is_bad_number, is_bad_name, are_bad_rights}

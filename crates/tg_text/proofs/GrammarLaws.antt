@@ -3,14 +3,14 @@ use Rattle.std.proofs.Common.{◌≡◌, refl, sym, ◌∙◌, ap, inl, inr, ◌
 use Rattle.std.specs.Bool.{MatchBool}
 use Rattle.std.specs.List.{slice_get}
 use Rattle.std.proofs.lemmas.Bool.{ltb-false, le-ltb}
-use Rattle.tg_text.specs.declared.faults.TextKind.{TextKind}
-use Rattle.tg_text.specs.declared.faults.TextKind.TheVariants.{LineTooLong}
-use Rattle.tg_text.specs.Lines.{words_of, is_skipped}
-use Rattle.tg_text.specs.Words.{Word}
-use Rattle.tg_text.specs.Reading.{◌>>=◌, on_line, after_line, after_lines}
+use Rattle.tg_words.specs.declared.faults.TextKind.{TextKind}
+use Rattle.tg_words.specs.declared.faults.TextKind.TheVariants.{LineTooLong}
+use Rattle.tg_words.specs.Lines.{words_of, is_skipped}
+use Rattle.tg_words.specs.Words.{Word}
+use Rattle.tg_words.specs.Reading.{◌>>=◌, on_line, after_line, after_lines}
 use Rattle.tg_text.specs.Grammar.{IsLine, AreLines, IsFirstFault}
 use Rattle.tg_text.proofs.Steps.{ok_is, else_ok}
-use Rattle.tg_text.specs.Limits.{most_line_bytes}
+use Rattle.tg_words.specs.Limits.{most_line_bytes}
 
 pub cases_result : {A E : Type 0} (r : Result A E) → ((x : A) × (r ≡ Ok x)) ⊎ ((e : E) × (r ≡ Err e))
 cases_result (Ok x) = inl (x, refl)

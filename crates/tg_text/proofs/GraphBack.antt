@@ -21,17 +21,17 @@ use Rattle.tg_graph.specs.Rules.{with_vertex, with_rights, with_edge}
 use Rattle.tg_graph.specs.Additions.{label_between}
 use Rattle.tg_graph.proofs.Graphs.{with_edge-nothing}
 use Rattle.tg_names.proofs.Sets.{member-where, named-where}
-use Rattle.tg_text.specs.declared.faults.TextKind.{TextKind}
-use Rattle.tg_text.specs.declared.versions.Version.{Version}
-use Rattle.tg_text.specs.declared.versions.Version.TheVariants.{One, Two}
-use Rattle.tg_text.specs.declared.faults.TextKind.TheVariants.{BadRights, DuplicateVertex, TooManyVertices, UnknownVertex, DuplicateEdge}
-use Rattle.tg_text.specs.Lines.{lines_of, is_skipped}
-use Rattle.tg_text.specs.Reading.{◌>>=◌, after_lines, on_line}
-use Rattle.tg_text.specs.Words.{Word, name_at, header_number}
-use Rattle.tg_text.specs.Versions.{has_letters, limit_of, version_of, version_word}
-use Rattle.tg_text.specs.GraphText.{GraphSoFar, graph_item, vertex_item, edge_item, graph_text, empty_graph, with_new_vertex, with_new_edge, edge_rights_at}
-use Rattle.tg_text.specs.Spelling.{spaced, rights_text}
-use Rattle.tg_text.specs.Canonical.{canonical_text, can_write, edge_line, in_name_order, letters_suffice, line_of, name_cmp, row_text, version_line, vertex_line}
+use Rattle.tg_words.specs.declared.faults.TextKind.{TextKind}
+use Rattle.tg_words.specs.declared.versions.Version.{Version}
+use Rattle.tg_words.specs.declared.versions.Version.TheVariants.{One, Two}
+use Rattle.tg_words.specs.declared.faults.TextKind.TheVariants.{BadRights, DuplicateVertex, TooManyVertices, UnknownVertex, DuplicateEdge}
+use Rattle.tg_words.specs.Lines.{lines_of, is_skipped}
+use Rattle.tg_words.specs.Reading.{◌>>=◌, after_lines, on_line}
+use Rattle.tg_words.specs.Words.{Word, name_at, header_number}
+use Rattle.tg_words.specs.Versions.{has_letters, limit_of, version_of, version_word, edge_rights_at}
+use Rattle.tg_text.specs.GraphText.{GraphSoFar, graph_item, vertex_item, edge_item, graph_text, empty_graph, with_new_vertex, with_new_edge}
+use Rattle.tg_words.specs.Spelling.{spaced, rights_text, line_of}
+use Rattle.tg_text.specs.Canonical.{canonical_text, can_write, edge_line, in_name_order, letters_suffice, name_cmp, row_text, version_line, vertex_line}
 use Rattle.tg_text.specs.RoundTrips.{in_order}
 use Rattle.tg_text.proofs.NameOrder.{Above, Strict, among, among-in_order, first, strict-in_order}
 use Rattle.tg_text.proofs.PlainWords.{IsPlainWord, lines-spaced, line-is, name_word, rights_word, word_from_test}
@@ -39,7 +39,7 @@ use Rattle.tg_text.proofs.Labels.{all_among}
 use Rattle.tg_text.proofs.Steps.{name_from}
 use Rattle.tg_text.proofs.RuleBack.{rights_at-is, length-two, length-more}
 use Rattle.tg_graph.specs.Limits.{most_vertices}
-use Rattle.tg_text.specs.Limits.{most_line_bytes}
+use Rattle.tg_words.specs.Limits.{most_line_bytes}
 
 -- ---- one line
 -- the graph alone

@@ -10,12 +10,12 @@ use Rattle.tg_names.specs.Letters.{set_of_letters}
 use Rattle.tg_graph.specs.Graphs.{ProtectionGraph, has_vertex}
 use Rattle.tg_graph.specs.Rules.{with_vertex, with_rights}
 use Rattle.tg_graph.specs.Additions.{label_between}
-use Rattle.tg_text.specs.declared.faults.TextKind.{TextKind}
-use Rattle.tg_text.specs.declared.versions.Version.{Version}
-use Rattle.tg_text.specs.declared.faults.TextKind.TheVariants.{BadName, BadRights, DuplicateVertex, TooManyVertices, UnknownVertex, DuplicateEdge}
-use Rattle.tg_text.specs.Words.{Word, is_word, value_or, header_number}
-use Rattle.tg_text.specs.Reading.{◌>>=◌}
-use Rattle.tg_text.specs.Versions.{has_letters, last_version, limit_of, version_numbered, version_of}
+use Rattle.tg_words.specs.declared.faults.TextKind.{TextKind}
+use Rattle.tg_words.specs.declared.versions.Version.{Version}
+use Rattle.tg_words.specs.declared.faults.TextKind.TheVariants.{BadName, BadRights, DuplicateVertex, TooManyVertices, UnknownVertex, DuplicateEdge}
+use Rattle.tg_words.specs.Words.{Word, is_word, value_or, header_number}
+use Rattle.tg_words.specs.Reading.{◌>>=◌}
+use Rattle.tg_words.specs.Versions.{has_letters, last_version, limit_of, version_numbered, version_of}
 use Rattle.tg_text.specs.GraphText.{GraphSoFar, vertex_item, edge_item, graph_item}
 use Rattle.tg_text.specs.FaultKinds.{graph_condition}
 use Rattle.tg_text.proofs.Steps.{word_is}

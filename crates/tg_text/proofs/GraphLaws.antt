@@ -10,16 +10,16 @@ use Rattle.tg_names.specs.Names.{Name}
 use Rattle.tg_graph.specs.Graphs.{ProtectionGraph, has_vertex}
 use Rattle.tg_graph.specs.Rules.{with_vertex, with_rights}
 use Rattle.tg_graph.specs.Additions.{label_between}
-use Rattle.tg_text.specs.declared.faults.TextKind.{TextKind}
-use Rattle.tg_text.specs.declared.versions.Version.{Version}
-use Rattle.tg_text.specs.declared.versions.Version.TheVariants.{One, Two}
-use Rattle.tg_text.specs.declared.faults.TextKind.TheVariants.{BadRights, DuplicateVertex, TooManyVertices, UnknownVertex, DuplicateEdge}
-use Rattle.tg_text.specs.Lines.{lines_of}
-use Rattle.tg_text.specs.Words.{Word, is_word, value_or, name_at, rights_at, one_word, three_words, number_of, header_number}
-use Rattle.tg_text.specs.Versions.{has_letters, last_version, limit_of, version_numbered, version_of, version_word}
-use Rattle.tg_text.specs.Reading.{◌>>=◌, after_lines}
+use Rattle.tg_words.specs.declared.faults.TextKind.{TextKind}
+use Rattle.tg_words.specs.declared.versions.Version.{Version}
+use Rattle.tg_words.specs.declared.versions.Version.TheVariants.{One, Two}
+use Rattle.tg_words.specs.declared.faults.TextKind.TheVariants.{BadRights, DuplicateVertex, TooManyVertices, UnknownVertex, DuplicateEdge}
+use Rattle.tg_words.specs.Lines.{lines_of}
+use Rattle.tg_words.specs.Words.{Word, is_word, value_or, name_at, rights_at, one_word, three_words, number_of, header_number}
+use Rattle.tg_words.specs.Versions.{has_letters, last_version, limit_of, version_numbered, version_of, version_word, edge_rights_at}
+use Rattle.tg_words.specs.Reading.{◌>>=◌, after_lines}
 use Rattle.tg_text.specs.Grammar.{AreLines}
-use Rattle.tg_text.specs.GraphText.{GraphSoFar, nothing_read, edge_rights_at, with_new_vertex, with_new_edge, vertex_item, edge_item, version_item, graph_item, graph_text}
+use Rattle.tg_text.specs.GraphText.{GraphSoFar, nothing_read, with_new_vertex, with_new_edge, vertex_item, edge_item, version_item, graph_item, graph_text}
 use Rattle.tg_text.specs.GraphGrammar.{IsVersionLine, IsVertexLine, IsEdgeLine, IsGraphItem, GraphTextsAreThose, GraphFaultsAreFirst}
 use Rattle.tg_text.proofs.Steps.{ok_is, bind_ok, else_ok, chosen, value_ok, word_is, name_ok, name_from, one_word_is, three_words_are}
 use Rattle.tg_text.proofs.GrammarLaws.{same_value, same_fault, lines_ok, lines_from, lines_fault}

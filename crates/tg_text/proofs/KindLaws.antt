@@ -4,16 +4,16 @@ use Rattle.std.specs.Prelude.{◌⊎◌, codes, is_some}
 use Rattle.std.proofs.lemmas.Bool.{false≢true, and_parts}
 use Rattle.tg_graph.specs.declared.rules.Rule.{Rule}
 use Rattle.tg_graph.specs.Limits.{most_cells, most_seats}
-use Rattle.tg_text.specs.declared.faults.TextKind.{TextKind}
-use Rattle.tg_text.specs.declared.faults.TextKind.TheVariants.{LineTooLong, NoHeader}
+use Rattle.tg_words.specs.declared.faults.TextKind.{TextKind}
+use Rattle.tg_words.specs.declared.faults.TextKind.TheVariants.{LineTooLong, NoHeader}
 use Rattle.tg_text.specs.declared.rule_text.RuleLine.{RuleLine}
 use Rattle.tg_text.specs.declared.script_text.ScriptLine.{ScriptLine}
 use Rattle.tg_text.specs.declared.script_text.Header.{Header}
 use Rattle.tg_text.specs.declared.script_text.Header.TheVariants.{Nothing, Seats, Whole}
-use Rattle.tg_text.specs.Limits.{most_events, most_line_bytes, most_rules}
-use Rattle.tg_text.specs.Lines.{lines_of, words_of, is_skipped}
-use Rattle.tg_text.specs.Words.{Word}
-use Rattle.tg_text.specs.Reading.{◌>>=◌, after_line, after_lines}
+use Rattle.tg_words.specs.Limits.{most_events, most_line_bytes, most_rules}
+use Rattle.tg_words.specs.Lines.{lines_of, words_of, is_skipped}
+use Rattle.tg_words.specs.Words.{Word}
+use Rattle.tg_words.specs.Reading.{◌>>=◌, after_line, after_lines}
 use Rattle.tg_text.specs.GraphText.{nothing_read, graph_item, graph_text}
 use Rattle.tg_text.specs.RuleText.{rule_of_words, rule_line, rule_item, rules_text}
 use Rattle.tg_text.specs.ScriptText.{ScriptOf, event_of_words, event_item, script_item, with_header, script_text}

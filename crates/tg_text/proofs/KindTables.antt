@@ -3,13 +3,13 @@ use Rattle.std.proofs.Common.{◌≡◌, refl, sym, ◌∙◌, ◌&&◌, subst, 
 use Rattle.std.specs.Prelude.{Contains, IsTrue}
 use Rattle.std.specs.List.{AllByRecursion}
 use Rattle.std.proofs.lemmas.Bool.{false≢true, and_parts}
-use Rattle.tg_text.specs.declared.faults.TextKind.{TextKind}
-use Rattle.tg_text.specs.declared.faults.TextKind.TheVariants.{LineTooLong, BadWord, WordCount, BadNumber, BadName, BadRights, DuplicateVertex, TooManyVertices, UnknownVertex, UnknownGroup, DuplicateEdge, TooMany, NoHeader}
+use Rattle.tg_words.specs.declared.faults.TextKind.{TextKind}
+use Rattle.tg_words.specs.declared.faults.TextKind.TheVariants.{LineTooLong, BadWord, WordCount, BadNumber, BadName, BadRights, DuplicateVertex, TooManyVertices, UnknownVertex, UnknownGroup, DuplicateEdge, TooMany, NoHeader}
 use Rattle.tg_text.specs.declared.rule_text.RuleLine.{RuleLine}
 use Rattle.tg_text.specs.declared.script_text.ScriptLine.{ScriptLine}
 use Rattle.tg_text.specs.declared.script_text.Header.{Header}
-use Rattle.tg_text.specs.Lines.{words_of, is_skipped}
-use Rattle.tg_text.specs.Words.{Word, is_word}
+use Rattle.tg_words.specs.Lines.{words_of, is_skipped}
+use Rattle.tg_words.specs.Words.{Word, is_word}
 use Rattle.tg_text.specs.GraphText.{GraphSoFar}
 use Rattle.tg_text.specs.Forms.{Form, form_in, rule_forms, some_word, is_bad_number}
 use Rattle.tg_text.specs.FaultKinds.{of_line, graph_condition, rule_condition, one_rule_condition, script_condition, graph_kinds, one_rule_kinds, rules_kinds, script_kinds, GraphHasTheseKinds, OneRuleHasTheseKinds, RulesHaveTheseKinds, ScriptHasTheseKinds}

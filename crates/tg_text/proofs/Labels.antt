@@ -17,9 +17,9 @@ use Rattle.tg_graph.specs.Additions.{label_between}
 use Rattle.tg_names.specs.Sets.{nothing}
 use Rattle.tg_rows.specs.Rows.{Edges, Entries, IsGraph, label_in, label_of, is_target, row_number}
 use Rattle.tg_rows.proofs.Places.{distinct_from_up}
-use Rattle.tg_text.specs.declared.versions.Version.{Version}
-use Rattle.tg_text.specs.declared.versions.Version.TheVariants.{One, Two}
-use Rattle.tg_text.specs.Versions.{has_letters}
+use Rattle.tg_words.specs.declared.versions.Version.{Version}
+use Rattle.tg_words.specs.declared.versions.Version.TheVariants.{One, Two}
+use Rattle.tg_words.specs.Versions.{has_letters}
 use Rattle.tg_text.specs.Canonical.{in_name_order, letters_suffice}
 use Rattle.tg_text.proofs.NameOrder.{among, among-in_order}
 use Rattle.tg_text.proofs.GraphLines.{between, is-row}

@@ -1,4 +1,3 @@
-pub mod Cuts
 pub mod Steps
 pub mod GrammarLaws
 pub mod RuleLaws
@@ -10,7 +9,6 @@ pub mod GraphKinds
 pub mod KindLaws
 pub mod KindTables
 pub mod LineCuts
-pub mod LineFeeds
 pub mod WordCuts
 pub mod NumberLaws
 pub mod Letters
@@ -28,7 +26,6 @@ pub mod SmallGraphs
 pub mod PlainEdges
 pub mod PlainRules
 pub mod RuleSinks
-pub mod Digits
 pub mod PolicyReads
 pub mod PolicyLaws
 pub mod PolicySound

@@ -3,7 +3,7 @@ use Rattle.std.proofs.Common.{◌≡◌, ◌≢◌, refl, sym, ◌∙◌, ap, su
 use Rattle.std.specs.List.{AllByRecursion, onto_first}
 use Rattle.std.proofs.lemmas.Bool.{cases_Bool, eqb-false, eqb-true, ne_eqb}
 use Rattle.std.proofs.lemmas.List.{append_assoc, append-nil}
-use Rattle.tg_text.specs.Lines.{lines_of}
+use Rattle.tg_words.specs.Lines.{lines_of}
 use Rattle.tg_text.specs.WordLaws.{HasNoFeed, with_feeds, EndsWithout, AreLinesOf, LinesExactly}
 
 abbrev pub NoFeed : List ℕ → Type 0

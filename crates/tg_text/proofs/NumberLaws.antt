@@ -7,7 +7,7 @@ use Rattle.std.proofs.lemmas.Bool.Decides.{nat_tests}
 use Rattle.std.proofs.lemmas.Fmt.{decimal_digit, decimal_step, decimal_injective}
 use Rattle.std.proofs.lemmas.List.{append_assoc, append-nil}
 use Rattle.tg_names.specs.Laws.{IsDigit}
-use Rattle.tg_text.specs.Words.{Word, number_of, with_digits, is_digit}
+use Rattle.tg_words.specs.Words.{Word, number_of, with_digits, is_digit}
 use Rattle.tg_text.specs.WordLaws.{IsSpelledAsNumber, NumberWordsExactly, NumbersAreDecimal}
 use Rattle.tg_text.proofs.ScriptNumbers.{if_some, if_none, same_number, number_is_some}
 

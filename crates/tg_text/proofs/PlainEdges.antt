@@ -13,15 +13,15 @@ use Rattle.tg_graph.specs.Graphs.{ProtectionGraph}
 use Rattle.tg_names.specs.Sets.{member, nothing, right_of_letter}
 use Rattle.tg_names.specs.Letters.{set_of_letters, with_letters, with_new_right, with_right}
 use Rattle.tg_names.proofs.Letters.{none-letters}
-use Rattle.tg_text.specs.declared.faults.TextKind.TheVariants.{BadRights}
-use Rattle.tg_text.specs.declared.versions.Version.{Version}
-use Rattle.tg_text.specs.Canonical.{line_of}
-use Rattle.tg_text.specs.GraphText.{edge_item, edge_rights_at, graph_item}
-use Rattle.tg_text.specs.Limits.{most_line_bytes}
-use Rattle.tg_text.specs.Lines.{lines_of}
-use Rattle.tg_text.specs.Reading.{◌>>=◌, MakesFirst}
-use Rattle.tg_text.specs.Spelling.{spaced}
-use Rattle.tg_text.specs.Words.{Word, name_at, rights_at, value_or}
+use Rattle.tg_words.specs.declared.faults.TextKind.TheVariants.{BadRights}
+use Rattle.tg_words.specs.declared.versions.Version.{Version}
+use Rattle.tg_text.specs.GraphText.{edge_item, graph_item}
+use Rattle.tg_words.specs.Versions.{edge_rights_at}
+use Rattle.tg_words.specs.Limits.{most_line_bytes}
+use Rattle.tg_words.specs.Lines.{lines_of}
+use Rattle.tg_words.specs.Reading.{◌>>=◌, MakesFirst}
+use Rattle.tg_words.specs.Spelling.{spaced, line_of}
+use Rattle.tg_words.specs.Words.{Word, name_at, rights_at, value_or}
 use Rattle.tg_text.proofs.Steps.{bind_ok}
 use Rattle.tg_text.proofs.PlainWords.{IsPlainWord, is_plain, Plain, word_from_test, lines-spaced, line-is, name_word}
 

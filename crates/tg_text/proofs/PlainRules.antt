@@ -7,15 +7,14 @@ use Rattle.tg_graph.specs.declared.rules.Rule.TheVariants.{Take, Grant, Create, 
 use Rattle.tg_names.specs.Letters.{set_of_letters}
 use Rattle.tg_graph.specs.Rules.{rights_of}
 use Rattle.tg_graph.specs.RuleWords.{IsRule}
-use Rattle.tg_text.specs.declared.faults.TextKind.TheVariants.{BadRights, TooMany}
+use Rattle.tg_words.specs.declared.faults.TextKind.TheVariants.{BadRights, TooMany}
 use Rattle.tg_text.specs.declared.rule_text.RuleLine.{RuleLine}
-use Rattle.tg_text.specs.Canonical.{line_of}
-use Rattle.tg_text.specs.Limits.{most_line_bytes, most_rules}
-use Rattle.tg_text.specs.Lines.{lines_of, is_skipped}
-use Rattle.tg_text.specs.Reading.{◌>>=◌, MakesFirst}
-use Rattle.tg_text.specs.RuleText.{words_with, rule_line, counted_item}
-use Rattle.tg_text.specs.Spelling.{spaced}
-use Rattle.tg_text.specs.Words.{Word, value_or}
+use Rattle.tg_words.specs.Limits.{most_line_bytes, most_rules}
+use Rattle.tg_words.specs.Lines.{lines_of, is_skipped}
+use Rattle.tg_words.specs.Reading.{◌>>=◌, MakesFirst}
+use Rattle.tg_text.specs.RuleText.{rule_line, counted_item}
+use Rattle.tg_words.specs.Spelling.{spaced, line_of, words_with}
+use Rattle.tg_words.specs.Words.{Word, value_or}
 use Rattle.tg_text.proofs.PlainWords.{IsPlainWord, word_from_test, name_word, lines-spaced, line-is}
 use Rattle.tg_text.proofs.PlainEdges.{set_word}
 use Rattle.tg_text.proofs.RuleBack.{words_with-read, length-more}

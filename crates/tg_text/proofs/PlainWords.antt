@@ -10,17 +10,16 @@ use Rattle.tg_names.specs.declared.right_sets.Rights.{Rights}
 use Rattle.tg_names.specs.Names.{Name, IsName, first_bad, fits_at}
 use Rattle.tg_names.specs.Sets.{member}
 use Rattle.tg_names.specs.Letters.{letters_among, letters_of, letter_of, all_rights}
-use Rattle.tg_text.specs.declared.faults.TextKind.{TextKind}
-use Rattle.tg_text.specs.declared.faults.TextKind.TheVariants.{LineTooLong}
-use Rattle.tg_text.specs.Lines.{lines_of, words_of, is_blank, begins_with_word, is_skipped}
-use Rattle.tg_text.specs.Reading.{after_line}
-use Rattle.tg_text.specs.Words.{Word}
-use Rattle.tg_text.specs.Spelling.{spaced, or_dash, rights_text}
-use Rattle.tg_text.specs.Canonical.{line_of}
+use Rattle.tg_words.specs.declared.faults.TextKind.{TextKind}
+use Rattle.tg_words.specs.declared.faults.TextKind.TheVariants.{LineTooLong}
+use Rattle.tg_words.specs.Lines.{lines_of, words_of, is_blank, begins_with_word, is_skipped}
+use Rattle.tg_words.specs.Reading.{after_line}
+use Rattle.tg_words.specs.Words.{Word}
+use Rattle.tg_words.specs.Spelling.{spaced, or_dash, rights_text, line_of}
 use Rattle.tg_text.proofs.Letters.{length-letters}
 use Rattle.tg_text.proofs.LineCuts.{NoFeed, line_first}
 use Rattle.tg_text.proofs.WordCuts.{word_first}
-use Rattle.tg_text.specs.Limits.{most_line_bytes}
+use Rattle.tg_words.specs.Limits.{most_line_bytes}
 
 -- ---- words without blanks and line feeds
 abbrev pub is_plain : ℕ → Bool

@@ -7,19 +7,19 @@ use Rattle.std.proofs.lemmas.List.Folds.{list_any-append}
 use Rattle.std.proofs.Math.Seq.{take-append_seam}
 use Rattle.tg_names.specs.Names.{Name}
 use Rattle.tg_graph.specs.Graphs.{ProtectionGraph}
-use Rattle.tg_text.specs.declared.faults.TextKind.{TextKind}
+use Rattle.tg_words.specs.declared.faults.TextKind.{TextKind}
 use Rattle.tg_text.specs.declared.policy_text.Operand.{Operand}
 use Rattle.tg_text.specs.declared.policy_text.Operand.TheVariants as operand
 use Rattle.tg_text.specs.declared.policy_text.Claim.{Claim}
 use Rattle.tg_text.specs.declared.policy_text.Claim.TheVariants as claim
-use Rattle.tg_text.specs.Lines.{lines_of, is_skipped}
-use Rattle.tg_text.specs.Words.{Word}
-use Rattle.tg_text.specs.Reading.{◌>>=◌, on_line, after_lines}
-use Rattle.tg_text.specs.Spelling.{rights_text, spaced}
+use Rattle.tg_words.specs.Lines.{lines_of, is_skipped}
+use Rattle.tg_words.specs.Words.{Word}
+use Rattle.tg_words.specs.Reading.{◌>>=◌, on_line, after_lines}
+use Rattle.tg_words.specs.Spelling.{rights_text, spaced}
 use Rattle.tg_text.specs.PolicyText.{PolicyLineOf, makes_group, has_group, policy_item, policy_text, IsClaim, IsKnown, IsPolicyLine, ArePolicyLines}
 use Rattle.tg_text.specs.PolicyGrammar.{operand_word, WritesClaim}
 use Rattle.tg_text.specs.PolicyTrips.{claim_words, policy_words, lines_of_policy, renumbered, PoliciesAreReadAsWritten}
-use Rattle.tg_text.specs.Limits.{most_line_bytes, most_policy_lines}
+use Rattle.tg_words.specs.Limits.{most_line_bytes, most_policy_lines}
 use Rattle.tg_text.proofs.PlainWords.{IsPlainWord, word_from_test, name_word, rights_word, lines-spaced, line-is}
 use Rattle.tg_text.proofs.RightsBack.{rights-back}
 use Rattle.tg_text.proofs.PolicyLaws.{all-to, policy_item_from}

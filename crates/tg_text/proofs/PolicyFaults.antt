@@ -11,23 +11,23 @@ use Rattle.tg_names.specs.Names.{name_of}
 use Rattle.tg_names.specs.Sets.{is_empty_set}
 use Rattle.tg_names.specs.Letters.{set_of_letters}
 use Rattle.tg_graph.specs.Graphs.{ProtectionGraph}
-use Rattle.tg_text.specs.declared.versions.Version.TheVariants.{Two}
-use Rattle.tg_text.specs.declared.faults.TextKind.{TextKind}
-use Rattle.tg_text.specs.declared.faults.TextKind.TheVariants.{BadWord, WordCount, BadName, BadRights, UnknownVertex, UnknownGroup, TooMany}
+use Rattle.tg_words.specs.declared.versions.Version.TheVariants.{Two}
+use Rattle.tg_words.specs.declared.faults.TextKind.{TextKind}
+use Rattle.tg_words.specs.declared.faults.TextKind.TheVariants.{BadWord, WordCount, BadName, BadRights, UnknownVertex, UnknownGroup, TooMany}
 use Rattle.tg_text.specs.declared.policy_text.Operand.{Operand}
 use Rattle.tg_text.specs.declared.policy_text.Operand.TheVariants as operand
 use Rattle.tg_text.specs.declared.policy_text.Claim.{Claim}
 use Rattle.tg_text.specs.declared.policy_text.Claim.TheVariants as claim
-use Rattle.tg_text.specs.Versions.{has_letters}
-use Rattle.tg_text.specs.Words.{Word, is_word, value_or}
-use Rattle.tg_text.specs.Reading.{◌>>=◌, with_item}
+use Rattle.tg_words.specs.Versions.{has_letters}
+use Rattle.tg_words.specs.Words.{Word, is_word, value_or, some_rights_at, word_and_some, word_and_two}
+use Rattle.tg_words.specs.Reading.{◌>>=◌, with_item}
 use Rattle.tg_text.specs.Forms.{is_bad_name, are_bad_rights}
 use Rattle.tg_text.specs.Forms.Place.{AName}
 use Rattle.tg_text.specs.FaultKinds.{passes_at}
-use Rattle.tg_text.specs.PolicyText.{PolicyLineOf, Said, operand_at, operands_at, some_rights_at, word_and_some, word_and_two, group_of_words, rights_and_operands, said_by_words, lacks_vertex, lacks_group, known_operands, policy_line, policy_item}
+use Rattle.tg_text.specs.PolicyText.{PolicyLineOf, Said, operand_at, operands_at, group_of_words, rights_and_operands, said_by_words, lacks_vertex, lacks_group, known_operands, policy_line, policy_item}
 use Rattle.tg_text.specs.PolicyGrammar.{operand_word}
 use Rattle.tg_text.specs.PolicyKinds.{PolicyForm, some_operands, two_operands, some_rights, policy_form, operand_words, some_operand, is_bad_operand, policy_condition}
-use Rattle.tg_text.specs.Limits.{most_policy_lines}
+use Rattle.tg_words.specs.Limits.{most_policy_lines}
 use Rattle.tg_text.proofs.Steps.{ok_is, bind_ok}
 use Rattle.tg_text.proofs.LeastKind.{word_kinds, first_kind, fault_of}
 use Rattle.tg_text.proofs.PolicyLaws.{Saying, says_with, groups, nevers, mays, onlys, said_ok, operands_from}

@@ -19,14 +19,14 @@ use Rattle.tg_names.proofs.Letters.{none-letters}
 use Rattle.tg_text.specs.declared.policy_text.Operand.{Operand}
 use Rattle.tg_text.specs.declared.policy_text.Claim.{Claim}
 use Rattle.tg_text.specs.declared.policy_text.Claim.TheVariants as claim
-use Rattle.tg_text.specs.Lines.{lines_of, words_of, is_skipped, is_blank, begins_with_word}
-use Rattle.tg_text.specs.Words.{Word}
+use Rattle.tg_words.specs.Lines.{lines_of, words_of, is_skipped, is_blank, begins_with_word}
+use Rattle.tg_words.specs.Words.{Word}
 use Rattle.tg_text.specs.Grammar.{AreLines}
-use Rattle.tg_text.specs.Spelling.{rights_text, or_dash, spaced}
+use Rattle.tg_words.specs.Spelling.{rights_text, or_dash, spaced}
 use Rattle.tg_text.specs.PolicyText.{PolicyLineOf}
 use Rattle.tg_text.specs.PolicyGrammar.{operand_word, WritesClaim, IsPolicyItem}
 use Rattle.tg_text.specs.PolicyTrips.{claim_words, policy_words, FitsText, ReadPoliciesFit}
-use Rattle.tg_text.specs.Limits.{most_line_bytes, most_policy_lines}
+use Rattle.tg_words.specs.Limits.{most_line_bytes, most_policy_lines}
 use Rattle.tg_text.proofs.PolicyLaws.{policy_texts_are_those, all-from, all-to}
 use Rattle.tg_text.proofs.PolicySound.{policies_sound}
 use Rattle.tg_text.proofs.PolicyWords.{spaced-more}

@@ -10,18 +10,18 @@ use Rattle.tg_names.specs.Names.{IsName, first_bad, fits_at, Name}
 use Rattle.tg_names.specs.Sets.{is_empty_set}
 use Rattle.tg_names.specs.Letters.{set_of_letters}
 use Rattle.tg_graph.specs.Graphs.{ProtectionGraph, has_vertex}
-use Rattle.tg_text.specs.declared.faults.TextKind.{TextKind}
-use Rattle.tg_text.specs.declared.faults.TextKind.TheVariants.{BadWord, BadRights, UnknownVertex, UnknownGroup}
+use Rattle.tg_words.specs.declared.faults.TextKind.{TextKind}
+use Rattle.tg_words.specs.declared.faults.TextKind.TheVariants.{BadWord, BadRights, UnknownVertex, UnknownGroup}
 use Rattle.tg_text.specs.declared.policy_text.Operand.{Operand}
 use Rattle.tg_text.specs.declared.policy_text.Operand.TheVariants as operand
 use Rattle.tg_text.specs.declared.policy_text.Claim.{Claim}
 use Rattle.tg_text.specs.declared.policy_text.Claim.TheVariants as claim
-use Rattle.tg_text.specs.Lines.{lines_of}
-use Rattle.tg_text.specs.Words.{Word, is_word, name_at, rights_at, value_or}
-use Rattle.tg_text.specs.Reading.{◌>>=◌}
-use Rattle.tg_text.specs.PolicyText.{PolicyLineOf, Said, operand_at, operands_at, some_rights_at, word_and_some, word_and_two, group_of_words, rights_and_operands, said_by_words, has_group, lacks_vertex, lacks_group, known_operands, policy_line, policy_item, policy_text, MayHave, IsKnown}
+use Rattle.tg_words.specs.Lines.{lines_of}
+use Rattle.tg_words.specs.Words.{Word, is_word, name_at, rights_at, value_or, some_rights_at, word_and_some, word_and_two}
+use Rattle.tg_words.specs.Reading.{◌>>=◌}
+use Rattle.tg_text.specs.PolicyText.{PolicyLineOf, Said, operand_at, operands_at, group_of_words, rights_and_operands, said_by_words, has_group, lacks_vertex, lacks_group, known_operands, policy_line, policy_item, policy_text, MayHave, IsKnown}
 use Rattle.tg_text.specs.PolicyGrammar.{operand_word, WritesRights, WritesClaim, IsPolicyItem, PolicyTextsAreThose, PolicyFaultsAreFirst}
-use Rattle.tg_text.specs.Limits.{most_policy_lines}
+use Rattle.tg_words.specs.Limits.{most_policy_lines}
 use Rattle.tg_text.proofs.Steps.{ok_is, bind_ok, else_ok, chosen, value_ok, word_is, name_ok, name_from}
 use Rattle.tg_text.proofs.GrammarLaws.{lines_ok, lines_from, lines_fault}
 use Rattle.tg_text.proofs.RuleLaws.{item_ok, item_from}

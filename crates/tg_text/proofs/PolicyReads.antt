@@ -11,21 +11,21 @@ use Rattle.std.proofs.lemmas.List.Folds.{list_any-append}
 use Rattle.std.proofs.lemmas.Map.Text.{is_eq-slice_cmp}
 use Rattle.tg_names.specs.Names.{Name}
 use Rattle.tg_graph.specs.Graphs.{ProtectionGraph}
-use Rattle.tg_text.specs.declared.faults.TextKind.{TextKind}
-use Rattle.tg_text.specs.declared.faults.TextKind.TheVariants.{LineTooLong, UnknownVertex, UnknownGroup, TooMany}
-use Rattle.tg_text.specs.declared.faults.LineFault.{LineFault}
-use Rattle.tg_text.specs.declared.faults.LineFault.TheVariants as line
-use Rattle.tg_text.specs.declared.faults.TextFault.{TextFault}
-use Rattle.tg_text.specs.declared.faults.TextFault.TheVariants.{At, Memory}
+use Rattle.tg_words.specs.declared.faults.TextKind.{TextKind}
+use Rattle.tg_words.specs.declared.faults.TextKind.TheVariants.{LineTooLong, UnknownVertex, UnknownGroup, TooMany}
+use Rattle.tg_words.specs.declared.faults.LineFault.{LineFault}
+use Rattle.tg_words.specs.declared.faults.LineFault.TheVariants as line
+use Rattle.tg_words.specs.declared.faults.TextFault.{TextFault}
+use Rattle.tg_words.specs.declared.faults.TextFault.TheVariants.{At, Memory}
 use Rattle.tg_text.specs.declared.policy_text.Operand.{Operand}
 use Rattle.tg_text.specs.declared.policy_text.Operand.TheVariants as operand
 use Rattle.tg_text.specs.declared.policy_text.Claim.{Claim}
 use Rattle.tg_text.specs.declared.policy_text.Claim.TheVariants as claim
 use Rattle.tg_text.specs.declared.policy_text.PolicyLine.{PolicyLine}
-use Rattle.tg_text.specs.Limits.{most_line_bytes, most_policy_lines}
-use Rattle.tg_text.specs.Lines.{lines_of, words_of, is_skipped}
-use Rattle.tg_text.specs.Words.{Word}
-use Rattle.tg_text.specs.Reading.{◌>>=◌, on_line, after_line, after_lines, with_item, Makes, MakesAll, Reads}
+use Rattle.tg_words.specs.Limits.{most_line_bytes, most_policy_lines}
+use Rattle.tg_words.specs.Lines.{lines_of, words_of, is_skipped}
+use Rattle.tg_words.specs.Words.{Word}
+use Rattle.tg_words.specs.Reading.{◌>>=◌, on_line, after_line, after_lines, with_item, Makes, MakesAll, Reads}
 use Rattle.tg_text.specs.Canonical.{name_cmp}
 use Rattle.tg_text.specs.PolicyText.{PolicyLineOf, line_of_policy, policy_of, Said, operand_at, operands_at, said_by_words, makes_group, has_group, lacks_vertex, lacks_group, known_operands, policy_line, policy_item, policy_text}
 use Rattle.tg_text.specs.PolicyState.{item_over, HasGroupsOf, lacks_name, known_to}

@@ -10,8 +10,8 @@ use Rattle.tg_graph.specs.Graphs.{ProtectionGraph}
 use Rattle.tg_names.proofs.RightsWords.{rights_words_exactly}
 use Rattle.tg_text.specs.declared.policy_text.Claim.{Claim}
 use Rattle.tg_text.specs.declared.policy_text.Claim.TheVariants as claim
-use Rattle.tg_text.specs.Lines.{lines_of, words_of, is_skipped}
-use Rattle.tg_text.specs.Words.{Word}
+use Rattle.tg_words.specs.Lines.{lines_of, words_of, is_skipped}
+use Rattle.tg_words.specs.Words.{Word}
 use Rattle.tg_text.specs.Grammar.{AreLines}
 use Rattle.tg_text.specs.PolicyText.{PolicyLineOf, policy_text, IsClaim, IsPolicyLine, ArePolicyLines}
 use Rattle.tg_text.specs.PolicyGrammar.{WritesClaim, IsPolicyItem}

@@ -6,9 +6,8 @@ use Rattle.std.proofs.lemmas.List.{append-nil}
 use Rattle.tg_text.specs.declared.policy_text.Operand.{Operand}
 use Rattle.tg_text.specs.declared.policy_text.Claim.{Claim}
 use Rattle.tg_text.specs.declared.policy_text.Claim.TheVariants as claim
-use Rattle.tg_text.specs.Words.{Word}
-use Rattle.tg_text.specs.Spelling.{rights_text, spaced}
-use Rattle.tg_text.specs.Canonical.{line_of}
+use Rattle.tg_words.specs.Words.{Word}
+use Rattle.tg_words.specs.Spelling.{rights_text, spaced, line_of}
 use Rattle.tg_text.specs.PolicyGrammar.{operand_word}
 use Rattle.tg_text.specs.PolicyTrips.{claim_words}
 

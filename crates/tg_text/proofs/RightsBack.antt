@@ -8,7 +8,7 @@ use Rattle.std.proofs.lemmas.List.FromFn.{get_or-range_with_len, length-range_wi
 use Rattle.tg_names.specs.declared.right_sets.Rights.{Rights}
 use Rattle.tg_names.specs.Sets.{IsNamed}
 use Rattle.tg_names.specs.Letters.{set_of_letters}
-use Rattle.tg_text.specs.Spelling.{rights_text}
+use Rattle.tg_words.specs.Spelling.{rights_text}
 
 abbrev set_with : ℕ → Rights
 set_with n = record { 0 = n }

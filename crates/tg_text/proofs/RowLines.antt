@@ -16,8 +16,8 @@ use Rattle.tg_names.specs.Names.{Name}
 use Rattle.tg_rows.proofs.Rows.{same_bytes}
 use Rattle.tg_names.specs.Sets.{nothing}
 use Rattle.tg_rows.specs.Rows.{Edges, Entries, IsLabel, label_in, row_number}
-use Rattle.tg_text.specs.Canonical.{edge_end, edge_front, edge_line, line_of}
-use Rattle.tg_text.specs.Spelling.{rights_text, spaced}
+use Rattle.tg_text.specs.Canonical.{edge_end, edge_front, edge_line}
+use Rattle.tg_words.specs.Spelling.{rights_text, spaced, line_of}
 use Rattle.tg_text.proofs.NameOrder.{Strict, Above, among, absent, first, reversed, above_above, same_name-refl}
 
 -- ---- a row among all vertices

@@ -10,16 +10,16 @@ use Rattle.tg_names.specs.Names.{Name, IsName}
 use Rattle.tg_names.specs.Sets.{IsNamed}
 use Rattle.tg_graph.specs.Rules.{rights_of}
 use Rattle.tg_graph.specs.RuleWords.{IsRule}
-use Rattle.tg_text.specs.declared.faults.TextKind.TheVariants.{BadRights, LineTooLong}
-use Rattle.tg_text.specs.Lines.{words_of}
-use Rattle.tg_text.specs.Reading.{◌>>=◌}
-use Rattle.tg_text.specs.Words.{Word, name_at, rights_at, value_or}
-use Rattle.tg_text.specs.RuleText.{two_names, three_names, rule_of_words, rule_of_line, words_with}
-use Rattle.tg_text.specs.Spelling.{rule_text, rule_words, rights_text, spaced}
+use Rattle.tg_words.specs.declared.faults.TextKind.TheVariants.{BadRights, LineTooLong}
+use Rattle.tg_words.specs.Lines.{words_of}
+use Rattle.tg_words.specs.Reading.{◌>>=◌}
+use Rattle.tg_words.specs.Words.{Word, name_at, rights_at, value_or}
+use Rattle.tg_text.specs.RuleText.{two_names, three_names, rule_of_words, rule_of_line}
+use Rattle.tg_words.specs.Spelling.{rule_text, rule_words, rights_text, spaced, words_with}
 use Rattle.tg_text.proofs.PlainWords.{IsPlainWord, word_from_test, name_word, rights_word, words-spaced, length-rights}
 use Rattle.tg_text.proofs.RightsBack.{rights-back}
 use Rattle.tg_text.proofs.Steps.{name_from}
-use Rattle.tg_text.specs.Limits.{most_line_bytes}
+use Rattle.tg_words.specs.Limits.{most_line_bytes}
 
 pub rights_at-is : (s : Rights) → IsNamed s → rights_at (rights_text s) ≡ Ok s
 rights_at-is s n = ap (value_or BadRights) (rights-back s n)

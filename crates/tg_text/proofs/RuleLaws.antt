@@ -7,17 +7,17 @@ use Rattle.tg_graph.specs.declared.rules.Rule.{Rule}
 use Rattle.tg_graph.specs.declared.rules.Rule.TheVariants.{Take, Grant, Create, Remove}
 use Rattle.tg_names.specs.Letters.{set_of_letters}
 use Rattle.tg_names.specs.Names.{Name}
-use Rattle.tg_text.specs.declared.faults.TextKind.{TextKind}
-use Rattle.tg_text.specs.declared.faults.TextKind.TheVariants.{LineTooLong, BadWord, BadRights, TooMany}
+use Rattle.tg_words.specs.declared.faults.TextKind.{TextKind}
+use Rattle.tg_words.specs.declared.faults.TextKind.TheVariants.{LineTooLong, BadWord, BadRights, TooMany}
 use Rattle.tg_text.specs.declared.rule_text.RuleLine.{RuleLine}
-use Rattle.tg_text.specs.Lines.{lines_of, words_of}
-use Rattle.tg_text.specs.Words.{Word, is_word, name_at, rights_at, three_words, four_words}
-use Rattle.tg_text.specs.Reading.{◌>>=◌, with_item}
+use Rattle.tg_words.specs.Lines.{lines_of, words_of}
+use Rattle.tg_words.specs.Words.{Word, is_word, name_at, rights_at, three_words, four_words}
+use Rattle.tg_words.specs.Reading.{◌>>=◌, with_item}
 use Rattle.tg_text.specs.RuleText.{two_names, three_names, rule_of_words, rule_line, rule_item, rules_text}
 use Rattle.tg_text.specs.RuleGrammar.{SpellsTwoNames, SpellsThreeNames, Spells, SpellsRule, IsRuleItem, RuleLinesAreThose, RulesTextsAreThose, RuleFaultsAreFirst}
 use Rattle.tg_text.proofs.Steps.{ok_is, bind_ok, else_ok, chosen, value_ok, word_is, name_ok, name_from, three_words_are, four_words_are}
 use Rattle.tg_text.proofs.GrammarLaws.{lines_ok, lines_from, lines_fault}
-use Rattle.tg_text.specs.Limits.{most_line_bytes, most_rules}
+use Rattle.tg_words.specs.Limits.{most_line_bytes, most_rules}
 
 abbrev Two : Type 0
 Two = Name × Name × Rights

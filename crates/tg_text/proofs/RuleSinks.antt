@@ -4,16 +4,16 @@ use Rattle.std.proofs.lemmas.List.{append-nil}
 use Rattle.std.specs.Prelude.{nat_lt}
 use Rattle.std.specs.List.{fold}
 use Rattle.std.proofs.lemmas.List.Sums.{fold-append}
-use Rattle.tg_text.specs.declared.faults.TextKind.{TextKind}
-use Rattle.tg_text.specs.declared.faults.TextKind.TheVariants.{LineTooLong, TooMany}
-use Rattle.tg_text.specs.declared.faults.TextFault.{TextFault}
-use Rattle.tg_text.specs.declared.faults.TextFault.TheVariants.{At, Memory}
+use Rattle.tg_words.specs.declared.faults.TextKind.{TextKind}
+use Rattle.tg_words.specs.declared.faults.TextKind.TheVariants.{LineTooLong, TooMany}
+use Rattle.tg_words.specs.declared.faults.TextFault.{TextFault}
+use Rattle.tg_words.specs.declared.faults.TextFault.TheVariants.{At, Memory}
 use Rattle.tg_text.specs.declared.rule_text.RuleLine.{RuleLine}
-use Rattle.tg_text.specs.Limits.{most_line_bytes, most_rules}
-use Rattle.tg_text.specs.Lines.{lines_of, words_of, is_skipped}
-use Rattle.tg_text.specs.Reading.{◌>>=◌, on_line, after_line, after_lines, with_item, MakesAll, Reads}
+use Rattle.tg_words.specs.Limits.{most_line_bytes, most_rules}
+use Rattle.tg_words.specs.Lines.{lines_of, words_of, is_skipped}
+use Rattle.tg_words.specs.Reading.{◌>>=◌, on_line, after_line, after_lines, with_item, MakesAll, Reads}
 use Rattle.tg_text.specs.RuleText.{rule_line, rule_item, counted_item, rules_text, rules_make}
-use Rattle.tg_text.specs.Words.{Word}
+use Rattle.tg_words.specs.Words.{Word}
 
 module _ {A : Type 0} (with_rule : A → RuleLine → A) (start : A) where
   -- what rules make, and how many they are

@@ -6,18 +6,17 @@ use Rattle.std.proofs.lemmas.List.{append-nil, append_assoc, length-append}
 use Rattle.tg_graph.specs.declared.rules.Rule.{Rule}
 use Rattle.tg_graph.specs.declared.rules.Rule.TheVariants.{Take, Grant, Create, Remove}
 use Rattle.tg_graph.specs.RuleWords.{IsRule}
-use Rattle.tg_text.specs.declared.faults.TextKind.TheVariants.{LineTooLong, TooMany}
+use Rattle.tg_words.specs.declared.faults.TextKind.TheVariants.{LineTooLong, TooMany}
 use Rattle.tg_text.specs.declared.rule_text.RuleLine.{RuleLine}
-use Rattle.tg_text.specs.Lines.{lines_of, words_of, is_skipped}
-use Rattle.tg_text.specs.Reading.{◌>>=◌, on_line, after_lines, with_item}
+use Rattle.tg_words.specs.Lines.{lines_of, words_of, is_skipped}
+use Rattle.tg_words.specs.Reading.{◌>>=◌, on_line, after_lines, with_item}
 use Rattle.tg_text.specs.RuleText.{rule_line, rule_item, rules_text}
-use Rattle.tg_text.specs.Words.{Word}
-use Rattle.tg_text.specs.Spelling.{spaced, rule_words}
-use Rattle.tg_text.specs.Canonical.{line_of}
+use Rattle.tg_words.specs.Words.{Word}
+use Rattle.tg_words.specs.Spelling.{spaced, rule_words, line_of}
 use Rattle.tg_text.specs.RoundTrips.{lines_of_rules, on_lines, ListsAreReadAsWritten}
 use Rattle.tg_text.proofs.PlainWords.{IsPlainWord, words-spaced, lines-spaced, line-is}
 use Rattle.tg_text.proofs.RuleBack.{words-back, plain-rule, short-rule}
-use Rattle.tg_text.specs.Limits.{most_line_bytes, most_rules}
+use Rattle.tg_words.specs.Limits.{most_line_bytes, most_rules}
 
 not_skipped : (rule : Rule) → is_skipped (rule_words rule) ≡ false
 not_skipped (Take x y z s) = refl

@@ -11,14 +11,14 @@ use Rattle.tg_graph.specs.declared.session.Step.TheVariants.{Do, Holds, Share}
 use Rattle.tg_graph.specs.declared.session.Act.{Act}
 use Rattle.tg_graph.specs.declared.session.Act.TheVariants.{Begin, Stage, Commit, Abort}
 use Rattle.tg_names.specs.Names.{Name}
-use Rattle.tg_text.specs.declared.faults.TextKind.{TextKind}
-use Rattle.tg_text.specs.declared.faults.TextKind.TheVariants.{BadWord, WordCount, BadNumber, BadRights, NoHeader}
+use Rattle.tg_words.specs.declared.faults.TextKind.{TextKind}
+use Rattle.tg_words.specs.declared.faults.TextKind.TheVariants.{BadWord, WordCount, BadNumber, BadRights, NoHeader}
 use Rattle.tg_text.specs.declared.script_text.ScriptLine.{ScriptLine}
 use Rattle.tg_text.specs.declared.script_text.Header.{Header}
 use Rattle.tg_text.specs.declared.script_text.Header.TheVariants.{Nothing, Seats, Whole}
-use Rattle.tg_text.specs.Lines.{lines_of}
-use Rattle.tg_text.specs.Words.{Word, is_word, value_or, name_at, right_at, right_of, one_word, three_words, number_of, at_most, number_up_to, header_number}
-use Rattle.tg_text.specs.Reading.{◌>>=◌, after_lines}
+use Rattle.tg_words.specs.Lines.{lines_of}
+use Rattle.tg_words.specs.Words.{Word, is_word, value_or, name_at, right_at, right_of, one_word, three_words, number_of, at_most, number_up_to, header_number}
+use Rattle.tg_words.specs.Reading.{◌>>=◌, after_lines}
 use Rattle.tg_text.specs.RuleText.{rule_of_words}
 use Rattle.tg_text.specs.ScriptText.{ScriptOf, right_and_names, act_alone, act_of_words, seated, event_of_words, event_item, script_item, with_header, script_text}
 use Rattle.tg_text.specs.Grammar.{AreLines, IsFirstFault}
@@ -28,7 +28,7 @@ use Rattle.tg_text.proofs.Steps.{ok_is, bind_ok, chosen, value_ok, word_is, name
 use Rattle.tg_text.proofs.GrammarLaws.{lines_ok, lines_from, lines_fault, cases_result, same_value, same_number}
 use Rattle.tg_text.proofs.RuleLaws.{rule_ok, rule_from, item_ok, item_from, keyword}
 use Rattle.tg_graph.specs.Limits.{most_cells, most_seats}
-use Rattle.tg_text.specs.Limits.{most_events}
+use Rattle.tg_words.specs.Limits.{most_events}
 
 -- ---- numbers
 

@@ -5,14 +5,14 @@ use Rattle.std.specs.Bool.{MatchBool}
 use Rattle.std.proofs.lemmas.Bool.{or_parts}
 use Rattle.std.proofs.lemmas.Bool.Decides.{nat_tests}
 use Rattle.std.proofs.lemmas.List.Elements.{All-nil, All-push}
-use Rattle.tg_text.specs.declared.faults.TextKind.{TextKind}
+use Rattle.tg_words.specs.declared.faults.TextKind.{TextKind}
 use Rattle.tg_text.specs.declared.script_text.ScriptLine.{ScriptLine}
 use Rattle.tg_text.specs.declared.script_text.Header.{Header}
 use Rattle.tg_text.specs.declared.script_text.Header.TheVariants.{Nothing, Seats, Whole}
-use Rattle.tg_text.specs.Lines.{lines_of, words_of, is_skipped}
-use Rattle.tg_text.specs.Words.{Word, number_of, with_digits, is_digit}
+use Rattle.tg_words.specs.Lines.{lines_of, words_of, is_skipped}
+use Rattle.tg_words.specs.Words.{Word, number_of, with_digits, is_digit}
 use Rattle.tg_text.specs.Grammar.{AreLines}
-use Rattle.tg_text.specs.Reading.{◌>>=◌, after_lines}
+use Rattle.tg_words.specs.Reading.{◌>>=◌, after_lines}
 use Rattle.tg_text.specs.ScriptText.{ScriptOf, script_item, with_header, script_text, IsCount, IsWithinLimits}
 use Rattle.tg_text.specs.ScriptGrammar.{SpellsNumber, IsScriptItem}
 use Rattle.tg_text.proofs.ScriptLaws.{script_texts_are_those}

@@ -3,11 +3,11 @@ use Rattle.std.proofs.Common.{◌≡◌, ℕ, ◌+◌, ◌≤◌, Bool, true, fa
 use Rattle.std.specs.Bool.{MatchBool}
 use Rattle.tg_graph.specs.Graphs.{ProtectionGraph}
 use Rattle.tg_graph.specs.Limits.{most_vertices}
-use Rattle.tg_text.specs.declared.versions.Version.{Version}
-use Rattle.tg_text.specs.declared.versions.Version.TheVariants.{One, Two}
-use Rattle.tg_text.specs.Lines.{lines_of, words_of, is_skipped}
-use Rattle.tg_text.specs.Words.{Word}
-use Rattle.tg_text.specs.Versions.{limit_of, version_of}
+use Rattle.tg_words.specs.declared.versions.Version.{Version}
+use Rattle.tg_words.specs.declared.versions.Version.TheVariants.{One, Two}
+use Rattle.tg_words.specs.Lines.{lines_of, words_of, is_skipped}
+use Rattle.tg_words.specs.Words.{Word}
+use Rattle.tg_words.specs.Versions.{limit_of, version_of}
 use Rattle.tg_text.specs.Grammar.{AreLines}
 use Rattle.tg_text.specs.GraphText.{GraphSoFar, graph_text, nothing_read}
 use Rattle.tg_text.specs.GraphGrammar.{IsGraphItem}

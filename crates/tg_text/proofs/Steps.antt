@@ -5,10 +5,10 @@ use Rattle.std.proofs.lemmas.Bool.{false≢true, eqb-false, ltb-false, ne_eqb, l
 use Rattle.std.proofs.lemmas.Slice.Eq.{bytes_eq-Decides}
 use Rattle.tg_names.specs.declared.names.NameFault.TheVariants.{Empty, TooLong}
 use Rattle.tg_names.specs.Names.{IsName, name_of, checked, first_bad}
-use Rattle.tg_text.specs.declared.faults.TextKind.{TextKind}
-use Rattle.tg_text.specs.declared.faults.TextKind.TheVariants.{BadName}
-use Rattle.tg_text.specs.Reading.{◌>>=◌}
-use Rattle.tg_text.specs.Words.{Word, is_word, value_or, name_at, one_word, three_words, four_words}
+use Rattle.tg_words.specs.declared.faults.TextKind.{TextKind}
+use Rattle.tg_words.specs.declared.faults.TextKind.TheVariants.{BadName}
+use Rattle.tg_words.specs.Reading.{◌>>=◌}
+use Rattle.tg_words.specs.Words.{Word, is_word, value_or, name_at, one_word, three_words, four_words}
 
 abbrev done : {A : Type 0} → A → Result A TextKind
 done x = Ok x

@@ -2,8 +2,8 @@
 use Rattle.std.proofs.Common.{◌≡◌, refl, sym, ◌∙◌, ap, subst, inl, inr, ℕ, ◌<◌, true, false, not, eqb, ◌||◌, List, [], ◌∷◌, ◌++◌, length, arith}
 use Rattle.std.specs.List.{AllByRecursion, onto_first}
 use Rattle.std.proofs.lemmas.Bool.{eqb-true, or_cases, cases_Bool, false≢true}
-use Rattle.tg_text.specs.Lines.{words_of, is_blank, begins_with_word}
-use Rattle.tg_text.specs.Words.{Word}
+use Rattle.tg_words.specs.Lines.{words_of, is_blank, begins_with_word}
+use Rattle.tg_words.specs.Words.{Word}
 use Rattle.tg_text.specs.WordLaws.{IsBlank, BlanksExactly, GoesNoFurther, AreWordsOf, WordsExactly}
 
 blank_from : (b : ℕ) → IsBlank b → is_blank b ≡ true

@@ -10,10 +10,10 @@ use Rattle.tg_names.specs.Sets.{is_empty_set}
 use Rattle.tg_names.specs.Names.{Name}
 use Rattle.tg_graph.specs.Graphs.{ProtectionGraph}
 use Rattle.tg_graph.specs.Additions.{label_between}
-use Rattle.tg_text.specs.declared.versions.Version.{Version}
-use Rattle.tg_text.specs.declared.versions.Version.TheVariants.{One, Two}
-use Rattle.tg_text.specs.Spelling.{spaced, rights_text}
-use Rattle.tg_text.specs.Versions.{has_letters, limit_of, version_word}
+use Rattle.tg_words.specs.declared.versions.Version.{Version}
+use Rattle.tg_words.specs.declared.versions.Version.TheVariants.{One, Two}
+use Rattle.tg_words.specs.Spelling.{spaced, line_of, rights_text}
+use Rattle.tg_words.specs.Versions.{has_letters, limit_of, version_word}
 
 -- the order of names: by their bytes, a prefix first
 abbrev pub name_cmp : Name → Name → Ordering
@@ -23,10 +23,6 @@ name_cmp = slice_cmp nat_cmp
 abbrev pub in_name_order : List Name → List Name
 in_name_order [] = []
 in_name_order (v ∷ vs) = insert_key name_cmp (in_name_order vs) v
-
--- the words with single spaces, and a line feed
-abbrev pub line_of : List (List ℕ) → List ℕ
-line_of words = spaced words ++ 10 ∷ []
 
 abbrev pub vertex_line : Name → List ℕ
 vertex_line v = line_of (codes "vertex" ∷ v ∷ [])

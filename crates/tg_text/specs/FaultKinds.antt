@@ -4,17 +4,17 @@ use Rattle.std.specs.Option.{option_map_or}
 use Rattle.tg_names.specs.Sets.{is_empty_set}
 use Rattle.tg_graph.specs.Additions.{label_between}
 use Rattle.tg_graph.specs.Graphs.{ProtectionGraph, has_vertex}
-use Rattle.tg_text.specs.declared.faults.TextKind.{TextKind}
-use Rattle.tg_text.specs.declared.faults.TextKind.TheVariants.{LineTooLong, BadWord, WordCount, BadNumber, BadName, BadRights, DuplicateVertex, TooManyVertices, UnknownVertex, UnknownGroup, DuplicateEdge, TooMany, NoHeader}
+use Rattle.tg_words.specs.declared.faults.TextKind.{TextKind}
+use Rattle.tg_words.specs.declared.faults.TextKind.TheVariants.{LineTooLong, BadWord, WordCount, BadNumber, BadName, BadRights, DuplicateVertex, TooManyVertices, UnknownVertex, UnknownGroup, DuplicateEdge, TooMany, NoHeader}
 use Rattle.tg_text.specs.declared.rule_text.RuleLine.{RuleLine}
 use Rattle.tg_text.specs.declared.script_text.ScriptLine.{ScriptLine}
 use Rattle.tg_text.specs.declared.script_text.Header.{Header}
 use Rattle.tg_text.specs.declared.script_text.Header.TheVariants.{Nothing, Seats, Whole}
-use Rattle.tg_text.specs.Limits.{most_events, most_line_bytes, most_rules}
-use Rattle.tg_text.specs.Lines.{lines_of, words_of, is_skipped}
-use Rattle.tg_text.specs.Words.{Word, is_word}
-use Rattle.tg_text.specs.Reading.{after_line}
-use Rattle.tg_text.specs.Versions.{limit_of, version_of}
+use Rattle.tg_words.specs.Limits.{most_events, most_line_bytes, most_rules}
+use Rattle.tg_words.specs.Lines.{lines_of, words_of, is_skipped}
+use Rattle.tg_words.specs.Words.{Word, is_word}
+use Rattle.tg_words.specs.Reading.{after_line}
+use Rattle.tg_words.specs.Versions.{limit_of, version_of}
 use Rattle.tg_text.specs.GraphText.{GraphSoFar, nothing_read, graph_line, graph_text}
 use Rattle.tg_text.specs.RuleText.{rule_of_line, rule_item, rules_text}
 use Rattle.tg_text.specs.ScriptText.{script_item, script_text}

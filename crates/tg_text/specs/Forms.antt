@@ -7,11 +7,11 @@ use Rattle.tg_names.specs.Names.{name_of}
 use Rattle.tg_names.specs.Sets.{is_empty_set}
 use Rattle.tg_names.specs.Letters.{set_of_letters}
 use Rattle.tg_graph.specs.Limits.{most_cells, most_seats}
-use Rattle.tg_text.specs.declared.versions.Version.{Version}
+use Rattle.tg_words.specs.declared.versions.Version.{Version}
 use Rattle.tg_text.specs.declared.script_text.Header.{Header}
 use Rattle.tg_text.specs.declared.script_text.Header.TheVariants.{Nothing, Seats, Whole}
-use Rattle.tg_text.specs.Words.{Word, number_of, right_of}
-use Rattle.tg_text.specs.Versions.{has_letters, last_version, version_of}
+use Rattle.tg_words.specs.Words.{Word, number_of, right_of}
+use Rattle.tg_words.specs.Versions.{has_letters, last_version, version_of}
 
 -- a word that says what the line is, a number from 1 to a limit, a name, a set of rights, a set that is not empty in letters of a version, or one right
 pub data Place : Type 0 where

@@ -1,9 +1,9 @@
 -- Grammars of texts, which know of no fault.
 use Rattle.std.specs.Prelude.{◌≡◌, ℕ, ◌+◌, ◌≤◌, List, [], ◌∷◌, length, take, slice_get, Some}
 use Rattle.std.specs.Bool.{MatchBool}
-use Rattle.tg_text.specs.Lines.{words_of, is_skipped}
-use Rattle.tg_text.specs.Words.{Word}
-use Rattle.tg_text.specs.Limits.{most_line_bytes}
+use Rattle.tg_words.specs.Lines.{words_of, is_skipped}
+use Rattle.tg_words.specs.Words.{Word}
+use Rattle.tg_words.specs.Limits.{most_line_bytes}
 
 -- A line is not too long. It is skipped, and changes nothing; or its words lead from a to b, as item says.
 pub record IsLine {A : Type 0} (item : A → List Word → A → Type 0) (a : A) (line : List ℕ) (b : A) : Type 0 where

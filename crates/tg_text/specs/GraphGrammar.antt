@@ -7,11 +7,11 @@ use Rattle.tg_names.specs.Letters.{set_of_letters}
 use Rattle.tg_graph.specs.Graphs.{ProtectionGraph, has_vertex}
 use Rattle.tg_graph.specs.Rules.{with_vertex, with_rights}
 use Rattle.tg_graph.specs.Additions.{label_between}
-use Rattle.tg_text.specs.declared.faults.TextKind.{TextKind}
-use Rattle.tg_text.specs.declared.versions.Version.{Version}
-use Rattle.tg_text.specs.Lines.{lines_of}
-use Rattle.tg_text.specs.Words.{Word}
-use Rattle.tg_text.specs.Versions.{has_letters, limit_of, version_of, version_word}
+use Rattle.tg_words.specs.declared.faults.TextKind.{TextKind}
+use Rattle.tg_words.specs.declared.versions.Version.{Version}
+use Rattle.tg_words.specs.Lines.{lines_of}
+use Rattle.tg_words.specs.Words.{Word}
+use Rattle.tg_words.specs.Versions.{has_letters, limit_of, version_of, version_word}
 use Rattle.tg_text.specs.GraphText.{GraphSoFar, nothing_read, graph_text}
 use Rattle.tg_text.specs.Grammar.{AreLines, IsFirstFault}
 

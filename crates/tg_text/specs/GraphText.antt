@@ -1,18 +1,18 @@
 -- The text of a graph.
-use Rattle.std.specs.Prelude.{ℕ, nat_le, ◌&&◌, ◌||◌, not, List, [], ◌∷◌, length, codes, Option, None, Some, Result, Ok, Err, if◌then◌else◌, false}
+use Rattle.std.specs.Prelude.{ℕ, nat_le, ◌&&◌, not, List, [], ◌∷◌, length, codes, Option, None, Some, Result, Ok, Err, if◌then◌else◌, false}
 use Rattle.tg_names.specs.declared.right_sets.Rights.{Rights}
 use Rattle.tg_names.specs.Names.{Name}
 use Rattle.tg_graph.specs.Graphs.{ProtectionGraph, has_vertex}
 use Rattle.tg_names.specs.Sets.{is_empty_set}
 use Rattle.tg_graph.specs.Rules.{with_vertex, with_rights}
 use Rattle.tg_graph.specs.Additions.{label_between}
-use Rattle.tg_text.specs.declared.faults.TextKind.{TextKind}
-use Rattle.tg_text.specs.declared.faults.TextKind.TheVariants.{BadWord, BadRights, DuplicateVertex, TooManyVertices, UnknownVertex, DuplicateEdge}
-use Rattle.tg_text.specs.declared.versions.Version.{Version}
-use Rattle.tg_text.specs.Lines.{lines_of}
-use Rattle.tg_text.specs.Reading.{◌>>=◌, after_line, after_lines}
-use Rattle.tg_text.specs.Words.{Word, is_word, one_word, three_words, name_at, rights_at, header_number}
-use Rattle.tg_text.specs.Versions.{has_letters, last_version, limit_of, version_numbered, version_of}
+use Rattle.tg_words.specs.declared.faults.TextKind.{TextKind}
+use Rattle.tg_words.specs.declared.faults.TextKind.TheVariants.{BadWord, DuplicateVertex, TooManyVertices, UnknownVertex, DuplicateEdge}
+use Rattle.tg_words.specs.declared.versions.Version.{Version}
+use Rattle.tg_words.specs.Lines.{lines_of}
+use Rattle.tg_words.specs.Reading.{◌>>=◌, after_line, after_lines}
+use Rattle.tg_words.specs.Words.{Word, is_word, one_word, three_words, name_at, header_number}
+use Rattle.tg_words.specs.Versions.{edge_rights_at, last_version, limit_of, version_numbered, version_of}
 
 abbrev pub empty_graph : ProtectionGraph
 empty_graph = record { vertices = []; holds = λ u right v. false }
@@ -24,12 +24,6 @@ GraphSoFar = Option Version × ProtectionGraph
 -- before the first line
 abbrev pub nothing_read : GraphSoFar
 nothing_read = (None, empty_graph)
-
--- a label writes a set that is not empty, in letters of the version
-abbrev pub edge_rights_at : Version → Word → Result Rights TextKind
-edge_rights_at version word = do
-  s ← rights_at word
-  if is_empty_set s || not (has_letters version s) then Err BadRights else Ok s
 
 -- the graph with one more vertex
 abbrev pub with_new_vertex : Version → ProtectionGraph → Name → Result ProtectionGraph TextKind

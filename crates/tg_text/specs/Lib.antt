@@ -1,8 +1,3 @@
-pub mod Limits
-pub mod Lines
-pub mod Reading
-pub mod Words
-pub mod Versions
 pub mod GraphText
 pub mod RuleText
 pub mod ScriptText
@@ -18,7 +13,6 @@ pub mod Forms
 pub mod FaultKinds
 pub mod PolicyKinds
 pub mod WordLaws
-pub mod Spelling
 pub mod Canonical
 pub mod CanonicalLaws
 pub mod RoundTrips

@@ -5,16 +5,16 @@ use Rattle.tg_names.specs.Names.{IsName}
 use Rattle.tg_names.specs.Sets.{is_empty_set}
 use Rattle.tg_names.specs.Letters.{set_of_letters}
 use Rattle.tg_graph.specs.Graphs.{ProtectionGraph}
-use Rattle.tg_text.specs.declared.faults.TextKind.{TextKind}
+use Rattle.tg_words.specs.declared.faults.TextKind.{TextKind}
 use Rattle.tg_text.specs.declared.policy_text.Operand.{Operand}
 use Rattle.tg_text.specs.declared.policy_text.Operand.TheVariants as operand
 use Rattle.tg_text.specs.declared.policy_text.Claim.{Claim}
 use Rattle.tg_text.specs.declared.policy_text.Claim.TheVariants as claim
-use Rattle.tg_text.specs.Lines.{lines_of}
-use Rattle.tg_text.specs.Words.{Word}
+use Rattle.tg_words.specs.Lines.{lines_of}
+use Rattle.tg_words.specs.Words.{Word}
 use Rattle.tg_text.specs.PolicyText.{PolicyLineOf, policy_text, IsKnown, MayHave}
 use Rattle.tg_text.specs.Grammar.{AreLines, IsFirstFault}
-use Rattle.tg_text.specs.Limits.{most_policy_lines}
+use Rattle.tg_words.specs.Limits.{most_policy_lines}
 
 -- a vertex is written as its name, a group as `@` and its name
 abbrev pub operand_word : Operand → Word

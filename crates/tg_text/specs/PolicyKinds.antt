@@ -5,19 +5,19 @@ use Rattle.std.specs.Map.{lookup}
 use Rattle.std.specs.Option.{option_map_or}
 use Rattle.std.specs.Result.{result_ok}
 use Rattle.tg_graph.specs.Graphs.{ProtectionGraph}
-use Rattle.tg_text.specs.declared.faults.TextKind.{TextKind}
-use Rattle.tg_text.specs.declared.faults.TextKind.TheVariants.{LineTooLong, BadWord, WordCount, BadName, BadRights, UnknownVertex, UnknownGroup, TooMany}
+use Rattle.tg_words.specs.declared.faults.TextKind.{TextKind}
+use Rattle.tg_words.specs.declared.faults.TextKind.TheVariants.{LineTooLong, BadWord, WordCount, BadName, BadRights, UnknownVertex, UnknownGroup, TooMany}
 use Rattle.tg_text.specs.declared.policy_text.Operand.{Operand}
-use Rattle.tg_text.specs.declared.versions.Version.TheVariants.{Two}
-use Rattle.tg_text.specs.Lines.{lines_of}
-use Rattle.tg_text.specs.Words.{Word}
-use Rattle.tg_text.specs.Reading.{after_line}
+use Rattle.tg_words.specs.declared.versions.Version.TheVariants.{Two}
+use Rattle.tg_words.specs.Lines.{lines_of}
+use Rattle.tg_words.specs.Words.{Word}
+use Rattle.tg_words.specs.Reading.{after_line}
 use Rattle.tg_text.specs.Forms.{Place, is_bad_name, are_bad_rights}
 use Rattle.tg_text.specs.Forms.Place.{AName, ALabel}
 use Rattle.tg_text.specs.FaultKinds.{IsLeastKind, IsFaultOf, of_line, passes_at}
 use Rattle.tg_text.specs.PolicyText.{PolicyLineOf, operand_at, lacks_vertex, lacks_group, policy_item, policy_text}
 use Rattle.tg_text.specs.PolicyGrammar.{IsPolicyItem}
-use Rattle.tg_text.specs.Limits.{most_policy_lines}
+use Rattle.tg_words.specs.Limits.{most_policy_lines}
 
 -- the form of a line: what its second word is, and of how many operands behind that word the line may be
 pub record PolicyForm : Type 0 where

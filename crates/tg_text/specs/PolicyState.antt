@@ -4,12 +4,12 @@ use Rattle.std.specs.List.{list_any}
 use Rattle.std.specs.BTreeSet.{BTreeSet, contains}
 use Rattle.tg_names.specs.Names.{Name}
 use Rattle.tg_graph.specs.Graphs.{ProtectionGraph}
-use Rattle.tg_text.specs.declared.faults.TextKind.{TextKind}
-use Rattle.tg_text.specs.declared.faults.TextKind.TheVariants.{UnknownVertex, UnknownGroup}
+use Rattle.tg_words.specs.declared.faults.TextKind.{TextKind}
+use Rattle.tg_words.specs.declared.faults.TextKind.TheVariants.{UnknownVertex, UnknownGroup}
 use Rattle.tg_text.specs.declared.policy_text.Operand.{Operand}
 use Rattle.tg_text.specs.declared.policy_text.Operand.TheVariants as operand
-use Rattle.tg_text.specs.Reading.{◌>>=◌}
-use Rattle.tg_text.specs.Words.{Word}
+use Rattle.tg_words.specs.Reading.{◌>>=◌}
+use Rattle.tg_words.specs.Words.{Word}
 use Rattle.tg_text.specs.Canonical.{name_cmp}
 use Rattle.tg_text.specs.PolicyText.{PolicyLineOf, has_group, lacks_vertex, policy_item}
 

@@ -5,17 +5,17 @@ use Rattle.tg_names.specs.declared.right_sets.Rights.{Rights}
 use Rattle.tg_names.specs.Names.{IsName, Name, same_name}
 use Rattle.tg_names.specs.Sets.{IsNamed, is_empty_set}
 use Rattle.tg_graph.specs.Graphs.{ProtectionGraph, has_vertex}
-use Rattle.tg_text.specs.declared.faults.TextKind.{TextKind}
-use Rattle.tg_text.specs.declared.faults.TextKind.TheVariants.{BadWord, WordCount, BadName, BadRights, UnknownVertex, UnknownGroup}
+use Rattle.tg_words.specs.declared.faults.TextKind.{TextKind}
+use Rattle.tg_words.specs.declared.faults.TextKind.TheVariants.{BadWord, BadName, UnknownVertex, UnknownGroup}
 use Rattle.tg_text.specs.declared.policy_text.Operand.{Operand}
 use Rattle.tg_text.specs.declared.policy_text.Operand.TheVariants as operand
 use Rattle.tg_text.specs.declared.policy_text.Claim.{Claim}
 use Rattle.tg_text.specs.declared.policy_text.Claim.TheVariants as claim
 use Rattle.tg_text.specs.declared.policy_text.PolicyLine.{PolicyLine}
-use Rattle.tg_text.specs.Lines.{lines_of}
-use Rattle.tg_text.specs.Reading.{◌>>=◌, after_lines, with_item}
-use Rattle.tg_text.specs.Words.{Word, is_word, name_at, rights_at}
-use Rattle.tg_text.specs.Limits.{most_policy_lines}
+use Rattle.tg_words.specs.Lines.{lines_of}
+use Rattle.tg_words.specs.Reading.{◌>>=◌, after_lines, with_item}
+use Rattle.tg_words.specs.Words.{Word, is_word, name_at, some_rights_at, word_and_some, word_and_two}
+use Rattle.tg_words.specs.Limits.{most_policy_lines}
 
 -- a line of a policy without where it lies in memory
 pub record PolicyLineOf : Type 0 where
@@ -43,26 +43,6 @@ operands_at (word ∷ words) = do
   first ← operand_at word
   others ← operands_at words
   Ok (first ∷ others)
-
--- a set of rights that is not empty
-abbrev pub some_rights_at : Word → Result Rights TextKind
-some_rights_at word = do
-  s ← rights_at word
-  if is_empty_set s then Err BadRights else Ok s
-
--- a word, and one word or more behind it
-abbrev pub word_and_some : List Word → Result (Word × List Word) TextKind
-word_and_some [] = Err WordCount
-word_and_some (a ∷ []) = Err WordCount
-word_and_some (a ∷ b ∷ words) = Ok (a, b ∷ words)
-
--- a word, and two words behind it
-abbrev pub word_and_two : List Word → Result (Word × List Word) TextKind
-word_and_two [] = Err WordCount
-word_and_two (a ∷ []) = Err WordCount
-word_and_two (a ∷ b ∷ []) = Err WordCount
-word_and_two (a ∷ b ∷ c ∷ []) = Ok (a, b ∷ c ∷ [])
-word_and_two (a ∷ b ∷ c ∷ d ∷ words) = Err WordCount
 
 -- what a line says of which operands
 abbrev pub Said : Type 0

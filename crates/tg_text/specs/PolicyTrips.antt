@@ -4,12 +4,11 @@ use Rattle.std.specs.List.{flat_map}
 use Rattle.tg_graph.specs.Graphs.{ProtectionGraph}
 use Rattle.tg_text.specs.declared.policy_text.Claim.{Claim}
 use Rattle.tg_text.specs.declared.policy_text.Claim.TheVariants as claim
-use Rattle.tg_text.specs.Words.{Word}
-use Rattle.tg_text.specs.Spelling.{rights_text, spaced}
-use Rattle.tg_text.specs.Canonical.{line_of}
+use Rattle.tg_words.specs.Words.{Word}
+use Rattle.tg_words.specs.Spelling.{rights_text, spaced, line_of}
 use Rattle.tg_text.specs.PolicyText.{PolicyLineOf, ArePolicyLines, policy_text}
 use Rattle.tg_text.specs.PolicyGrammar.{operand_word}
-use Rattle.tg_text.specs.Limits.{most_line_bytes, most_policy_lines}
+use Rattle.tg_words.specs.Limits.{most_line_bytes, most_policy_lines}
 
 abbrev pub claim_words : Claim → List Word
 claim_words (claim.Group n) = codes "group" ∷ n ∷ []

@@ -7,10 +7,10 @@ use Rattle.tg_graph.specs.RuleWords.{IsRule}
 use Rattle.tg_text.specs.declared.rule_text.RuleLine.{RuleLine}
 use Rattle.tg_text.specs.RuleText.{rule_of_line, rules_text}
 use Rattle.tg_text.specs.GraphText.{graph_text}
-use Rattle.tg_text.specs.Spelling.{rule_words, rule_text}
-use Rattle.tg_text.specs.Canonical.{line_of, canonical_text, in_name_order}
+use Rattle.tg_words.specs.Spelling.{rule_words, rule_text, line_of}
+use Rattle.tg_text.specs.Canonical.{canonical_text, in_name_order}
 use Rattle.tg_graph.specs.Limits.{most_vertices}
-use Rattle.tg_text.specs.Limits.{most_rules}
+use Rattle.tg_words.specs.Limits.{most_rules}
 
 -- the line of a rule writes that rule
 abbrev pub RulesAreReadAsWritten : Type 0

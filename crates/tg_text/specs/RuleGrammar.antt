@@ -5,13 +5,13 @@ use Rattle.tg_graph.specs.declared.rules.Rule.{Rule}
 use Rattle.tg_graph.specs.declared.rules.Rule.TheVariants.{Take, Grant, Create, Remove}
 use Rattle.tg_names.specs.Names.{IsName, Name}
 use Rattle.tg_names.specs.Letters.{set_of_letters}
-use Rattle.tg_text.specs.declared.faults.TextKind.{TextKind}
+use Rattle.tg_words.specs.declared.faults.TextKind.{TextKind}
 use Rattle.tg_text.specs.declared.rule_text.RuleLine.{RuleLine}
-use Rattle.tg_text.specs.Lines.{lines_of, words_of}
-use Rattle.tg_text.specs.Words.{Word}
+use Rattle.tg_words.specs.Lines.{lines_of, words_of}
+use Rattle.tg_words.specs.Words.{Word}
 use Rattle.tg_text.specs.RuleText.{rule_of_line, rules_text}
 use Rattle.tg_text.specs.Grammar.{AreLines, IsFirstFault}
-use Rattle.tg_text.specs.Limits.{most_line_bytes, most_rules}
+use Rattle.tg_words.specs.Limits.{most_line_bytes, most_rules}
 
 -- two names and a set of rights
 pub record SpellsTwoNames (words : List Word) (x y : Name) (s : Rights) : Type 0 where

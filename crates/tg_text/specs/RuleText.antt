@@ -7,13 +7,13 @@ use Rattle.tg_graph.specs.declared.rules.Rule.TheVariants.{Take, Grant, Create, 
 use Rattle.tg_names.specs.Sets.{IsNamed}
 use Rattle.tg_graph.specs.Rules.{rights_of}
 use Rattle.tg_names.specs.Names.{Name}
-use Rattle.tg_text.specs.declared.faults.TextKind.{TextKind}
-use Rattle.tg_text.specs.declared.faults.TextKind.TheVariants.{LineTooLong, BadWord, TooMany}
+use Rattle.tg_words.specs.declared.faults.TextKind.{TextKind}
+use Rattle.tg_words.specs.declared.faults.TextKind.TheVariants.{LineTooLong, BadWord, TooMany}
 use Rattle.tg_text.specs.declared.rule_text.RuleLine.{RuleLine}
-use Rattle.tg_text.specs.Lines.{lines_of, words_of}
-use Rattle.tg_text.specs.Reading.{◌>>=◌, after_lines, with_item}
-use Rattle.tg_text.specs.Words.{Word, is_word, three_words, four_words, name_at, rights_at}
-use Rattle.tg_text.specs.Limits.{most_line_bytes, most_rules}
+use Rattle.tg_words.specs.Lines.{lines_of, words_of}
+use Rattle.tg_words.specs.Reading.{◌>>=◌, after_lines, with_item}
+use Rattle.tg_words.specs.Words.{Word, is_word, three_words, four_words, name_at, rights_at}
+use Rattle.tg_words.specs.Limits.{most_line_bytes, most_rules}
 
 -- two names and a set of rights
 unfoldable pub two_names : List Word → Result (Name × Name × Rights) TextKind
@@ -43,13 +43,6 @@ rule_of_words (word ∷ words) =
     else (if is_word word (codes "create") then (two_names words >>= λ a. Ok (Create a.0 a.1 a.2))
     else (if is_word word (codes "remove") then (two_names words >>= λ a. Ok (Remove a.0 a.1 a.2))
     else Err BadWord)))
-
--- the words of a rule, whose rights are written in these letters
-abbrev pub words_with : Rule → Word → List Word
-words_with (Take x y z s) letters = codes "take" ∷ x ∷ y ∷ z ∷ letters ∷ []
-words_with (Grant x y z s) letters = codes "grant" ∷ x ∷ y ∷ z ∷ letters ∷ []
-words_with (Create x n s) letters = codes "create" ∷ x ∷ n ∷ letters ∷ []
-words_with (Remove x y s) letters = codes "remove" ∷ x ∷ y ∷ letters ∷ []
 
 -- The rule that a line writes. A line that a text would skip writes none.
 abbrev pub rule_of_line : List ℕ → Result Rule TextKind

@@ -5,17 +5,17 @@ use Rattle.tg_graph.specs.declared.session.Step.TheVariants.{Do, Holds, Share}
 use Rattle.tg_graph.specs.declared.session.Act.{Act}
 use Rattle.tg_graph.specs.declared.session.Act.TheVariants.{Begin, Stage, Commit, Abort}
 use Rattle.tg_names.specs.Names.{IsName, Name}
-use Rattle.tg_text.specs.declared.faults.TextKind.{TextKind}
+use Rattle.tg_words.specs.declared.faults.TextKind.{TextKind}
 use Rattle.tg_text.specs.declared.script_text.ScriptLine.{ScriptLine}
 use Rattle.tg_text.specs.declared.script_text.Header.{Header}
 use Rattle.tg_text.specs.declared.script_text.Header.TheVariants.{Nothing, Seats, Whole}
-use Rattle.tg_text.specs.Lines.{lines_of}
-use Rattle.tg_text.specs.Words.{Word, number_of, right_of}
+use Rattle.tg_words.specs.Lines.{lines_of}
+use Rattle.tg_words.specs.Words.{Word, number_of, right_of}
 use Rattle.tg_text.specs.ScriptText.{ScriptOf, script_text}
 use Rattle.tg_text.specs.Grammar.{AreLines, IsFirstFault}
 use Rattle.tg_text.specs.RuleGrammar.{Spells, SpellsRule}
 use Rattle.tg_graph.specs.Limits.{most_cells, most_seats}
-use Rattle.tg_text.specs.Limits.{most_events}
+use Rattle.tg_words.specs.Limits.{most_events}
 
 -- a right and two names
 pub record SpellsQuestion (words : List Word) (right : Right) (x y : Name) : Type 0 where

@@ -7,18 +7,18 @@ use Rattle.tg_graph.specs.declared.session.Act.TheVariants.{Begin, Stage, Commit
 use Rattle.tg_names.specs.Sets.{IsNamed}
 use Rattle.tg_graph.specs.Rules.{rights_of}
 use Rattle.tg_names.specs.Names.{Name}
-use Rattle.tg_text.specs.declared.faults.TextKind.{TextKind}
-use Rattle.tg_text.specs.declared.faults.TextKind.TheVariants.{BadWord, WordCount, NoHeader}
+use Rattle.tg_words.specs.declared.faults.TextKind.{TextKind}
+use Rattle.tg_words.specs.declared.faults.TextKind.TheVariants.{BadWord, WordCount, NoHeader}
 use Rattle.tg_text.specs.declared.script_text.ScriptLine.{ScriptLine}
 use Rattle.tg_text.specs.declared.script_text.Script.{Script}
 use Rattle.tg_text.specs.declared.script_text.Header.{Header}
 use Rattle.tg_text.specs.declared.script_text.Header.TheVariants.{Nothing, Seats, Whole}
-use Rattle.tg_text.specs.Lines.{lines_of}
-use Rattle.tg_text.specs.Reading.{◌>>=◌, after_lines, with_item}
-use Rattle.tg_text.specs.Words.{Word, is_word, no_words, three_words, name_at, right_at, number_up_to, header_number}
+use Rattle.tg_words.specs.Lines.{lines_of}
+use Rattle.tg_words.specs.Reading.{◌>>=◌, after_lines, with_item}
+use Rattle.tg_words.specs.Words.{Word, is_word, no_words, three_words, name_at, right_at, number_up_to, header_number}
 use Rattle.tg_text.specs.RuleText.{rule_of_words}
 use Rattle.tg_graph.specs.Limits.{most_cells, most_seats}
-use Rattle.tg_text.specs.Limits.{most_events}
+use Rattle.tg_words.specs.Limits.{most_events}
 
 -- a script without where it lies in memory
 pub record ScriptOf : Type 0 where

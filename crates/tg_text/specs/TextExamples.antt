@@ -2,12 +2,12 @@
 use Rattle.std.specs.Prelude.{◌≡◌, refl, [], ◌∷◌, ◌++◌, codes, Ok, Err}
 use Rattle.tg_graph.specs.declared.rules.Rule.TheVariants.{Take}
 use Rattle.tg_graph.specs.declared.session.Act.TheVariants.{Begin}
-use Rattle.tg_text.specs.declared.faults.TextKind.TheVariants.{WordCount, BadRights, DuplicateEdge, BadWord, NoHeader, BadNumber}
+use Rattle.tg_words.specs.declared.faults.TextKind.TheVariants.{WordCount, BadRights, DuplicateEdge, BadWord, NoHeader, BadNumber}
 use Rattle.tg_text.specs.WordLaws.{with_feeds}
 use Rattle.tg_text.specs.GraphText.{graph_text, vertex_item, edge_item, graph_item}
 use Rattle.tg_text.specs.RuleText.{two_names, three_names, rule_of_words, rule_line, rule_item, rules_text}
 use Rattle.tg_text.specs.ScriptText.{act_of_words, event_of_words, event_item, script_item, script_text}
-use Rattle.tg_text.specs.Words.{header_number}
+use Rattle.tg_words.specs.Words.{header_number}
 
 an_edge_has_four_words : graph_text (with_feeds (codes "vertex a" ∷ []) ++ codes "edge a") ≡ Err (2, WordCount)
 unfolding graph_text graph_item vertex_item edge_item

@@ -2,8 +2,8 @@
 use Rattle.std.specs.Prelude.{◌≡◌, ◌≢◌, ◌↔◌, ◌⊎◌, ⊤, ℕ, ◌<◌, ◌≤◌, List, [], ◌∷◌, ◌++◌, length, decimal, Some, IsSome, IsTrue}
 use Rattle.std.specs.List.{AllByRecursion, flat_map}
 use Rattle.tg_names.specs.Laws.{IsDigit}
-use Rattle.tg_text.specs.Lines.{is_blank, lines_of, words_of}
-use Rattle.tg_text.specs.Words.{Word, number_of}
+use Rattle.tg_words.specs.Lines.{is_blank, lines_of, words_of}
+use Rattle.tg_words.specs.Words.{Word, number_of}
 
 -- ---- lines
 

@@ -3,13 +3,12 @@ ghost use Rattle.std.specs.Prelude.{◌≡◌, ◌+◌, ◌<◌, ◌≤◌, ◌�
 ghost use Rattle.std.specs.List.{flat_map, list_all};
 ghost use Rattle.tg_graph.specs.GraphOf.{graph_of};
 ghost use Rattle.tg_rows.specs.Rows.{IsGraph, row_number};
-ghost use Rattle.tg_text.specs.Versions.{has_letters};
+ghost use Rattle.tg_words.specs.Versions.{has_letters};
 ghost use Rattle.tg_text.specs.Canonical.{canonical_text, edge_end, edge_front, in_name_order, letters_suffice, row_text, version_for, version_line, vertex_line};
 
-use crate::spelling::{put, put_name, put_rights};
-use crate::versions::Version;
 use std::alloc::{AllocError, Global};
 use tg_graph::{Graph, Name, Rights};
+use tg_words::{Version, put, put_name, put_rights};
 
 // As many bytes as the line of a version has, with its line feed.
 const VERSION_LINE: usize = 10;

@@ -4,18 +4,17 @@ ghost use Rattle.tg_names.specs.Names.{IsName};
 ghost use Rattle.tg_names.specs.Sets.{IsNamed, is_empty_set};
 ghost use Rattle.tg_graph.specs.GraphOf.{graph_of};
 ghost use Rattle.tg_graph.specs.Waiting.{graph_built};
-ghost use Rattle.tg_text.specs.Lines.{words_of};
-ghost use Rattle.tg_text.specs.Reading.{Makes, Reads};
-ghost use Rattle.tg_text.specs.Versions.{version_of};
+ghost use Rattle.tg_words.specs.Lines.{words_of};
+ghost use Rattle.tg_words.specs.Reading.{Makes, Reads};
+ghost use Rattle.tg_words.specs.Versions.{version_of};
 ghost use Rattle.tg_text.specs.GraphText.{GraphSoFar, version_item, vertex_item, edge_item, graph_item, graph_text, nothing_read, with_new_vertex, with_new_edge};
 
-use crate::faults::{LineFault, TextFault, TextKind};
-use crate::plain_lines::cut_edge;
-use crate::reading::{Items, read_lines};
-use crate::versions::{LAST_VERSION, Version};
-use crate::words::{edge_rights_at, header_number, name_at, one_word, three_words};
 use std::alloc::Global;
 use tg_graph::{EdgeFault, Graph, GraphBuilder, Name, Rights, VertexFault};
+use tg_words::{
+    Items, LAST_VERSION, LineFault, TextFault, TextKind, Version, cut_edge, edge_rights_at,
+    header_number, name_at, one_word, read_lines, three_words,
+};
 
 fn add_vertex(graph: &mut GraphBuilder, version: Version, name: Name) -> Result<(), LineFault>
     ensures { Makes (with_new_vertex version (graph_built graph.old) name) result

@@ -3,25 +3,22 @@ ghost use Rattle.std.specs.Prelude.{◌≡◌, ◌∷◌, ◌++◌, List, IfOk, 
 ghost use Rattle.std.specs.List.{list_any};
 ghost use Rattle.tg_graph.specs.Graphs.{ProtectionGraph};
 ghost use Rattle.tg_graph.specs.GraphOf.{graph_of};
-ghost use Rattle.tg_text.specs.Lines.{words_of};
-ghost use Rattle.tg_text.specs.Reading.{Finds, Makes, Reads, with_item};
-ghost use Rattle.tg_text.specs.Spelling.{spaced};
-ghost use Rattle.tg_text.specs.Canonical.{line_of};
+ghost use Rattle.tg_words.specs.Lines.{words_of};
+ghost use Rattle.tg_words.specs.Reading.{Finds, Makes, Reads, with_item};
+ghost use Rattle.tg_words.specs.Spelling.{spaced, line_of};
 ghost use Rattle.tg_text.specs.PolicyText.{PolicyLineOf, line_of_policy, policy_of, operand_at, operands_at, rights_and_operands, said_by_words, lacks_vertex, policy_text, ArePolicyLines};
 ghost use Rattle.tg_text.specs.PolicyState.{HasGroupsOf, IsFound, item_over, lacks_name, known_to};
-ghost use Rattle.tg_text.specs.Limits.{most_policy_lines};
+ghost use Rattle.tg_words.specs.Limits.{most_policy_lines};
 ghost use Rattle.tg_text.specs.PolicyGrammar.{operand_word};
 ghost use Rattle.tg_text.specs.PolicyTrips.{claim_words, policy_words, lines_of_policy};
 
-use crate::faults::{LineFault, TextFault, TextKind};
-use crate::limits::MOST_POLICY_LINES;
-use crate::lines::cut_word;
-use crate::reading::{Items, read_lines};
-use crate::spelling::{put, put_name, put_rights};
-use crate::words::{name_at, some_rights_at, word_and_some, word_and_two};
 use std::alloc::{AllocError, Global};
 use std::collections::BTreeSet;
 use tg_graph::{Graph, Name, Rights};
+use tg_words::{
+    Items, LineFault, MOST_POLICY_LINES, TextFault, TextKind, cut_word, name_at, put, put_name,
+    put_rights, read_lines, some_rights_at, word_and_some, word_and_two,
+};
 
 // As many bytes as the first two words of a line have at most.
 const LONGEST_CLAIM: usize = 22;

@@ -2,19 +2,17 @@
 ghost use Rattle.std.specs.Prelude.{◌≡◌, ◌∷◌, ℕ, nat_le, IfOk, OnOk, MatchOption};
 ghost use Rattle.tg_names.specs.Sets.{IsNamed};
 ghost use Rattle.tg_graph.specs.Rules.{rights_of};
-ghost use Rattle.tg_text.specs.Limits.{most_rules};
-ghost use Rattle.tg_text.specs.Lines.{words_of};
-ghost use Rattle.tg_text.specs.Reading.{Makes, MakesFirst, Reads};
+ghost use Rattle.tg_words.specs.Limits.{most_rules};
+ghost use Rattle.tg_words.specs.Lines.{words_of};
+ghost use Rattle.tg_words.specs.Reading.{Makes, MakesFirst, Reads};
 ghost use Rattle.tg_text.specs.RuleText.{two_names, three_names, rule_of_words, rule_of_line, counted_item, rules_make, rules_text, AreNamedLines};
 
-use crate::faults::{LineFault, TextFault, TextKind};
-use crate::limits::{MOST_LINE_BYTES, MOST_RULES};
-use crate::lines::cut_word;
-use crate::plain_lines::cut_rule;
-use crate::reading::{Items, read_lines};
-use crate::words::{four_words, name_at, rights_at, three_words};
 use std::alloc::{AllocError, Global};
 use tg_graph::{Name, Rights, Rule};
+use tg_words::{
+    Items, LineFault, MOST_LINE_BYTES, MOST_RULES, TextFault, TextKind, cut_rule, cut_word,
+    four_words, name_at, read_lines, rights_at, three_words,
+};
 
 /// A rule of a text.
 #[derive(Clone, Copy, PartialEq, Eq, Debug)]

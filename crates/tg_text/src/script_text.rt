@@ -2,19 +2,18 @@
 ghost use Rattle.std.specs.Prelude.{◌≡◌, ◌∷◌, List, Ok, IfOk, OnOk};
 ghost use Rattle.tg_text.specs.declared.script_text.Header.{Header};
 ghost use Rattle.tg_text.specs.declared.script_text.ScriptLine.{ScriptLine};
-ghost use Rattle.tg_text.specs.Limits.{most_events};
-ghost use Rattle.tg_text.specs.Lines.{words_of};
-ghost use Rattle.tg_text.specs.Reading.{Makes, Reads, with_item};
+ghost use Rattle.tg_words.specs.Limits.{most_events};
+ghost use Rattle.tg_words.specs.Lines.{words_of};
+ghost use Rattle.tg_words.specs.Reading.{Makes, Reads, with_item};
 ghost use Rattle.tg_text.specs.ScriptText.{right_and_names, act_alone, act_of_words, seated, event_of_words, event_item, script_item, script_text, script_of, IsNamedAct, AreNamedEvents, IsWithinLimits};
 
-use crate::faults::{LineFault, TextFault, TextKind};
-use crate::limits::MOST_EVENTS;
-use crate::lines::cut_word;
-use crate::reading::{Items, read_lines};
 use crate::rule_text::rule_of_words;
-use crate::words::{header_number, name_at, no_words, number_up_to, right_at, three_words};
 use std::alloc::Global;
 use tg_graph::{Act, MOST_CELLS, MOST_SEATS, Name, Right, Step};
+use tg_words::{
+    Items, LineFault, MOST_EVENTS, TextFault, TextKind, cut_word, header_number, name_at, no_words,
+    number_up_to, read_lines, right_at, three_words,
+};
 
 /// An event of a script: an act of a seat.
 #[derive(Clone, Copy, PartialEq, Eq, Debug)]

@@ -1,5 +1,5 @@
 use Rattle.std.proofs.Common.{◌≡◌, ◌<◌, ◌^◌, drop}
-use Rattle.tg_text.specs.Words.{with_digits}
+use Rattle.tg_words.specs.Words.{with_digits}
 use Rattle.tg_inputs.proofs.words.with_digits.Given as goal
 
 abbrev pub invariant-loop-byte : goal.invariant-loop-byte

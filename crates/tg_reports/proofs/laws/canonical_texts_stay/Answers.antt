@@ -2,7 +2,7 @@ use Rattle.std.proofs.Common.{ap, refl, ◌∙◌, Ok}
 use Rattle.std.specs.Prelude.{codes}
 use Rattle.tg_graph.specs.Graphs.{SameGraph}
 use Rattle.tg_text.specs.Canonical.{canonical_text}
-use Rattle.tg_text.specs.Reading.{◌>>=◌}
+use Rattle.tg_words.specs.Reading.{◌>>=◌}
 use Rattle.tg_text.specs.RoundTrips.{in_order}
 use Rattle.tg_text.proofs.GraphBack.{graph-back}
 use Rattle.tg_text.proofs.NameOrder.{among-in_order}

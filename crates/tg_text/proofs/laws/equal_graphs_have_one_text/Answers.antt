@@ -2,8 +2,8 @@ use Rattle.std.proofs.Common.{◌≡◌, ◌++◌, ◌∙◌, ◌&&◌, nat_le, 
 use Rattle.std.specs.List.{flat_map, list_all}
 use Rattle.tg_graph.specs.Graphs.{ProtectionGraph, SameGraph}
 use Rattle.tg_names.specs.Sets.{rights_where}
-use Rattle.tg_text.specs.declared.versions.Version.TheVariants.{One, Two}
-use Rattle.tg_text.specs.Versions.{has_letters, limit_of}
+use Rattle.tg_words.specs.declared.versions.Version.TheVariants.{One, Two}
+use Rattle.tg_words.specs.Versions.{has_letters, limit_of}
 use Rattle.tg_text.specs.Canonical.{edge_line, in_name_order, version_line, vertex_line}
 use Rattle.tg_text.proofs.NameOrder.{among-in_order, strict-in_order, strict_same}
 use Rattle.tg_text.proofs.laws.equal_graphs_have_one_text.Goals as goal

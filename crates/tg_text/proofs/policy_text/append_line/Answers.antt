@@ -1,6 +1,6 @@
 use Rattle.std.proofs.Common.{◌≡◌, ◌++◌, ◌∷◌, List, [], ℕ, take, length, ap, ◌∙◌, arith}
 use Rattle.std.proofs.lemmas.List.{take_all}
-use Rattle.tg_text.specs.Spelling.{spaced}
+use Rattle.tg_words.specs.Spelling.{spaced}
 use Rattle.tg_text.specs.PolicyTrips.{claim_words}
 use Rattle.tg_text.specs.declared.policy_text.Operand.{Operand}
 use Rattle.tg_text.proofs.PolicyWords.{operand_texts, whole-line}

@@ -1,5 +1,5 @@
 use Rattle.std.proofs.Common.{◌≡◌, [], length}
-use Rattle.tg_text.specs.Lines.{words_of}
+use Rattle.tg_words.specs.Lines.{words_of}
 use Rattle.tg_text.proofs.PolicyReads.{operands_behind}
 use Rattle.tg_text.proofs.policy_text.operands_at.Given as goal
 

@@ -1,7 +1,7 @@
 use Rattle.std.proofs.Common.{ap, ◌∙◌, length, Ok, Vec, Global}
 use Rattle.tg_graph.specs.GraphOf.{graph_of}
-use Rattle.tg_text.specs.Lines.{lines_of}
-use Rattle.tg_text.specs.Reading.{◌>>=◌}
+use Rattle.tg_words.specs.Lines.{lines_of}
+use Rattle.tg_words.specs.Reading.{◌>>=◌}
 use Rattle.tg_text.specs.declared.policy_text.PolicyLine.{PolicyLine}
 use Rattle.tg_text.specs.PolicyText.{policy_of}
 use Rattle.tg_text.proofs.PolicyReads.{policy-made-from, policy-fault-from}

@@ -1,6 +1,6 @@
 use Rattle.std.proofs.Common.{◌≡◌, ◌+◌, false, nat_le, sym, subst}
-use Rattle.tg_text.specs.Limits.{most_rules}
-use Rattle.tg_text.specs.Reading.{MakesFirst}
+use Rattle.tg_words.specs.Limits.{most_rules}
+use Rattle.tg_words.specs.Reading.{MakesFirst}
 use Rattle.tg_text.specs.RuleText.{counted_item}
 use Rattle.tg_text.proofs.PlainRules.{rule_first}
 use Rattle.tg_text.proofs.rule_text.add_plain_rule.Goals as goal

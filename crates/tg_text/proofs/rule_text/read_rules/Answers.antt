@@ -1,7 +1,7 @@
 use Rattle.std.proofs.Common.{ℕ, List, ◌∷◌, ◌++◌, [], ◌∙◌, ap, subst, Result}
-use Rattle.tg_text.specs.declared.faults.TextKind.{TextKind}
+use Rattle.tg_words.specs.declared.faults.TextKind.{TextKind}
 use Rattle.tg_text.specs.declared.rule_text.RuleLine.{RuleLine}
-use Rattle.tg_text.specs.Reading.{Reads}
+use Rattle.tg_words.specs.Reading.{Reads}
 use Rattle.tg_text.specs.RuleText.{rules_make}
 use Rattle.tg_text.proofs.RuleSinks.{rules-listed}
 use Rattle.tg_text.proofs.rule_text.read_rules.Goals as goal

@@ -1,6 +1,6 @@
 use Rattle.std.proofs.Common.{ap, ◌∙◌, length, Ok}
-use Rattle.tg_text.specs.Lines.{lines_of}
-use Rattle.tg_text.specs.Reading.{◌>>=◌}
+use Rattle.tg_words.specs.Lines.{lines_of}
+use Rattle.tg_words.specs.Reading.{◌>>=◌}
 use Rattle.tg_text.proofs.RuleSinks.{rules-made, fault-read}
 use Rattle.tg_text.proofs.rule_text.read_rules_into.Goals as goal
 

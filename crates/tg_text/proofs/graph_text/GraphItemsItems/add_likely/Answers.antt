@@ -1,6 +1,6 @@
 use Rattle.std.proofs.Common.{sym, subst}
 use Rattle.tg_graph.specs.Waiting.{graph_built}
-use Rattle.tg_text.specs.Reading.{MakesFirst}
+use Rattle.tg_words.specs.Reading.{MakesFirst}
 use Rattle.tg_text.specs.GraphText.{graph_item}
 use Rattle.tg_text.proofs.PlainEdges.{plain_edge_first}
 use Rattle.tg_text.proofs.graph_text.GraphItemsItems.add_likely.Goals as goal

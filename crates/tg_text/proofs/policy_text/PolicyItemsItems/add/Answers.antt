@@ -1,10 +1,10 @@
 use Rattle.std.proofs.Common.{◌≡◌, ◌∷◌, List, Result, Ok, Some, None, ap, sym, subst, ◌∙◌}
 use Rattle.tg_graph.specs.Graphs.{ProtectionGraph}
 use Rattle.tg_graph.specs.GraphOf.{graph_of}
-use Rattle.tg_text.specs.declared.faults.TextKind.{TextKind}
-use Rattle.tg_text.specs.Lines.{words_of}
-use Rattle.tg_text.specs.Reading.{Makes, with_item}
-use Rattle.tg_text.specs.Limits.{most_policy_lines}
+use Rattle.tg_words.specs.declared.faults.TextKind.{TextKind}
+use Rattle.tg_words.specs.Lines.{words_of}
+use Rattle.tg_words.specs.Reading.{Makes, with_item}
+use Rattle.tg_words.specs.Limits.{most_policy_lines}
 use Rattle.tg_text.specs.PolicyText.{PolicyLineOf, policy_of}
 use Rattle.tg_text.specs.PolicyState.{known_to}
 use Rattle.tg_text.proofs.PolicyReads.{line_with, item-unknown, item-known, makes-beside}

@@ -1,9 +1,0 @@
-use Rattle.std.proofs.Common.{◌≡◌, ◌<◌, ◌^◌, drop}
-use Rattle.tg_text.specs.Words.{with_digits}
-use Rattle.tg_text.proofs.words.with_digits.Given as goal
-
-abbrev pub invariant-loop-byte : goal.invariant-loop-byte
-invariant-loop-byte l = record {
-  so_far : with_digits l.number (drop l.byte-index l.digits) ≡ with_digits 0 l.digits;
-  few : l.number < 10 ^ l.byte-index;
-}

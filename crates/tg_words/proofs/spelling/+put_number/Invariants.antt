@@ -1,0 +1,4 @@
+use Rattle.tg_words.proofs.spelling.+put_number.Given as goal
+
+abbrev pub decreases-put_number : goal.decreases-put_number
+decreases-put_number l = l.number
