@@ -1,15 +1,3 @@
-pub mod OneRight
-pub mod Underway
-pub mod Moved
-pub mod Steps
-pub mod Shortest
-pub mod Searched
-pub mod Rounds
-pub mod Ways
-pub mod Derived
-pub mod Parts
-pub mod Created
-pub mod FloodSteps
 pub mod JoinedHoldings
 pub mod Gathered
 pub mod ByTarget
@@ -23,5 +11,3 @@ pub mod FirstCases
 pub mod RisingEntries
 pub mod LookedIslands
 pub mod Blocked
-pub mod Spreads
-pub mod LookedUp

@@ -1,12 +1,6 @@
-pub mod Flooding
-pub mod Spreading
-pub mod Derivations
-pub mod SetDerivations
-pub mod Searches
 pub mod Holdings
 pub mod Gathered
 pub mod Tables
 pub mod ByTarget
-pub mod Holders
 pub mod Reaching
 pub mod Cases

@@ -6,13 +6,13 @@ ghost use Rattle.tg_analysis.specs.Cases.{AreHeads, AreRising, IsClaim, IsClaimO
 
 use crate::cases::{Claimed, first_in_both, sooner};
 use crate::heads::Heads;
-use crate::holders::named;
 use crate::members::place_at;
 use bitflags::Flags;
 use std::alloc::{AllocError, Global};
 use std::collections::BTreeMap;
 use std::marker::Model;
 use tg_graph::{Right, Rights};
+use tg_sharing::named;
 
 /// Rights that an island holds by one edge.
 #[derive(Clone, Copy)]

@@ -11,12 +11,12 @@ ghost use Rattle.tg_islands.specs.Numbering.{AreCounted};
 ghost use Rattle.tg_islands.specs.Questions.{IsDueFault};
 ghost use Rattle.tg_analysis.specs.Reaching.{name_fault, TellWho, TellReach, set_at, AreNamedSets, GainsRights, HoldUpTo, HasEach, MarkUpTo, GainsLabel, GainLabels, ReachUpTo};
 
-use crate::holders::named;
 use crate::laws;
 use bitflags::Flags;
 use std::alloc::{AllocError, Global};
 use tg_graph::{Graph, Name, OpenRow, Rights, Wanted};
 use tg_islands::{AskFault, Islands};
+use tg_sharing::named;
 
 // So many empty sets.
 fn empty_sets(alloc: Global, count: usize) -> Result<Vec<Rights>, AllocError>

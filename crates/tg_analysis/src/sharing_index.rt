@@ -10,11 +10,11 @@ ghost use Rattle.tg_islands.specs.Questions.{question_fault, IsDueFault};
 use crate::by_target::EdgesByTarget;
 use crate::edge_counts::edge_count;
 use crate::laws;
-use crate::spreading::{Asked, holds_near, search_island};
 use std::alloc::{AllocError, Global};
 use std::marker::Model;
 use tg_graph::{Graph, Name, Right, Rights};
 use tg_islands::{AskFault, Islands};
+use tg_sharing::{Asked, holds_near, search_island};
 
 // What was found for all questions is paid for once half as much work was done without it as it takes.
 const SHARE: usize = 2;

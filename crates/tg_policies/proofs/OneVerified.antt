@@ -11,7 +11,7 @@ use Rattle.tg_text.specs.declared.policy_text.Claim.TheVariants as claim
 use Rattle.tg_text.specs.PolicyText.{PolicyLineOf}
 use Rattle.tg_words.specs.Spelling.{line_of}
 use Rattle.tg_analysis.specs.declared.cases.Case.{Case}
-use Rattle.tg_analysis.specs.Derivations.{IsDerivation}
+use Rattle.tg_sharing.specs.Derivations.{IsDerivation}
 use Rattle.tg_inputs.specs.Readings.{ReportText}
 use Rattle.tg_policies.specs.Derived.{derivation_report}
 use Rattle.tg_policies.specs.Policies.{Membership, no_members, members_after, Finding, AreFindings, IsWhy, verdict_line, told_of, told_of_all, broken_count, verified_report, IsVerified}

@@ -17,7 +17,7 @@ use Rattle.tg_text.specs.PolicyText.{PolicyLineOf}
 use Rattle.tg_text.specs.Canonical.{name_cmp}
 use Rattle.tg_words.specs.Spelling.{line_of}
 use Rattle.tg_analysis.specs.declared.cases.Case.{Case}
-use Rattle.tg_analysis.specs.Derivations.{IsDerivation}
+use Rattle.tg_sharing.specs.Derivations.{IsDerivation}
 use Rattle.tg_inputs.specs.Readings.{ReportText}
 use Rattle.tg_policies.specs.Derived.{derivation_report}
 

@@ -8,7 +8,7 @@ ghost use Rattle.tg_graph.specs.Limits.{most_vertices};
 ghost use Rattle.tg_graph.specs.RuleLists.{CanShare};
 ghost use Rattle.tg_text.specs.Canonical.{in_name_order};
 ghost use Rattle.tg_text.specs.PolicyText.{PolicyLineOf, line_of_policy, lacks_vertex};
-ghost use Rattle.tg_analysis.specs.Derivations.{IsDerivation};
+ghost use Rattle.tg_sharing.specs.Derivations.{IsDerivation};
 ghost use Rattle.tg_policies.specs.Policies.{IsVerdict, IsWhy, verdict_line};
 ghost use Rattle.tg_policies.specs.PolicyParts.{membership, NamesVertices, IsShared, IsToldOf, HasTold};
 

@@ -23,7 +23,7 @@ use Rattle.tg_text.proofs.RulesBack.{rules-read, skipped-line}
 use Rattle.tg_text.proofs.SmallGraphs.{graph_is_small}
 use Rattle.tg_text.proofs.Steps.{bind_ok}
 use Rattle.tg_islands.specs.Moves.{only}
-use Rattle.tg_analysis.proofs.Parts.{derivations_of_all_are_short, one_right_alone}
+use Rattle.tg_sharing.proofs.Parts.{derivations_of_all_are_short, one_right_alone}
 use Rattle.tg_inputs.specs.Readings.{Question, from_text, graph_in, rights_in, name_in, vertex_in, question_in}
 use Rattle.tg_policies.specs.Derived.{derivation_report}
 use Rattle.tg_inputs.specs.Replies.{Played, played_first, played}

@@ -10,7 +10,7 @@ use Rattle.tg_graph.specs.Graphs.{ProtectionGraph, has_vertex}
 use Rattle.tg_names.proofs.Sets.{member-where, named-where}
 use Rattle.tg_text.specs.Canonical.{in_name_order}
 use Rattle.tg_text.proofs.NameOrder.{among, among-in_order}
-use Rattle.tg_analysis.proofs.OneRight.{the_one, as_set}
+use Rattle.tg_sharing.proofs.OneRight.{the_one, as_set}
 use Rattle.tg_inputs.specs.Readings.{ReportText}
 use Rattle.tg_reports.specs.Reports.{TellsSharing, IsReached}
 use Rattle.tg_reports.specs.ReportLaws.{WhoIsAColumn, ReachIsARow}

@@ -18,9 +18,9 @@ use Rattle.tg_text.specs.RuleText.{rules_text}
 use Rattle.tg_text.specs.Canonical.{canonical_text, in_name_order}
 use Rattle.tg_words.specs.Spelling.{line_of}
 use Rattle.tg_islands.specs.Sharing.{InOneIsland}
-use Rattle.tg_analysis.specs.Derivations.{IsDerivation}
+use Rattle.tg_sharing.specs.Derivations.{IsDerivation}
 use Rattle.tg_islands.specs.Moves.{only}
-use Rattle.tg_analysis.specs.SetDerivations.{IsDerivationOfAll}
+use Rattle.tg_sharing.specs.SetDerivations.{IsDerivationOfAll}
 use Rattle.tg_cuts.specs.Cuts.{IsTheCut}
 use Rattle.tg_inputs.specs.Calls.{CommandWords, Case, Check, Apply, Islands, Share, Derive, Table, Run, Who, Reach, Verify, Cut}
 use Rattle.tg_inputs.specs.Readings.{Question, ReportText, CutQuestion, graph_in, question_in, cut_in}

@@ -14,7 +14,7 @@ use Rattle.tg_text.specs.Canonical.{canonical_text, in_name_order}
 use Rattle.tg_words.specs.Spelling.{line_of}
 use Rattle.tg_text.specs.RoundTrips.{lines_of_rules}
 use Rattle.tg_islands.specs.Sharing.{InOneIsland}
-use Rattle.tg_analysis.specs.SetDerivations.{IsDerivationOfAll}
+use Rattle.tg_sharing.specs.SetDerivations.{IsDerivationOfAll}
 use Rattle.tg_cuts.specs.Cuts.{IsTheCut, HasNoCut}
 use Rattle.tg_inputs.specs.Calls.{CommandWords, Case, Check, Apply, Islands, Share, Derive, Table, Run, Who, Reach, Verify, Cut}
 use Rattle.tg_inputs.specs.Readings.{ReportText, graph_in, rules_in, Question, question_in, TableQuestion, table_in, WhoQuestion, who_in, ReachQuestion, reach_in, CutQuestion, cut_in, policy_in, IsFor, Is}

@@ -1,5 +1,5 @@
 use Rattle.tg_graph.specs.GraphOf.{graph_of}
-use Rattle.tg_analysis.proofs.OneRight.{the_one, as_set}
+use Rattle.tg_sharing.proofs.OneRight.{the_one, as_set}
 use Rattle.tg_analysis.proofs.sharing_index.SharingIndex.search.Goals as goal
 
 pub returns-clause-exact : goal.returns-clause-exact

@@ -1,5 +1,0 @@
-use Rattle.tg_analysis.proofs.Created.{created_are_new}
-use Rattle.tg_analysis.proofs.laws.created_are_new.Goals as goal
-
-pub returns : goal.returns
-returns c = created_are_new

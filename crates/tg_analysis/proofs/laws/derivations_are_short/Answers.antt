@@ -1,5 +1,0 @@
-use Rattle.tg_analysis.proofs.Derived.{derivations_are_short}
-use Rattle.tg_analysis.proofs.laws.derivations_are_short.Goals as goal
-
-pub returns : goal.returns
-returns c = derivations_are_short

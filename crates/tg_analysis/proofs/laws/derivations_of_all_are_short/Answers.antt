@@ -1,5 +1,0 @@
-use Rattle.tg_analysis.proofs.Parts.{derivations_of_all_are_short}
-use Rattle.tg_analysis.proofs.laws.derivations_of_all_are_short.Goals as goal
-
-pub returns : goal.returns
-returns c = derivations_of_all_are_short

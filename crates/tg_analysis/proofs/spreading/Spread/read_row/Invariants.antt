@@ -1,5 +1,0 @@
-use Rattle.tg_analysis.specs.Spreading.{ReadsUpTo}
-use Rattle.tg_analysis.proofs.spreading.Spread.read_row.Given as goal
-
-abbrev pub invariant-loop-place : goal.invariant-loop-place
-invariant-loop-place l = ReadsUpTo l.graph l.position l.place l.initial.self l.self

@@ -1,0 +1,14 @@
+pub mod OneRight
+pub mod Underway
+pub mod Moved
+pub mod Steps
+pub mod Shortest
+pub mod Searched
+pub mod Rounds
+pub mod Ways
+pub mod Derived
+pub mod Parts
+pub mod Created
+pub mod FloodSteps
+pub mod Spreads
+pub mod LookedUp

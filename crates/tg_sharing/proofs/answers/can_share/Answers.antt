@@ -1,0 +1,14 @@
+use Rattle.tg_graph.specs.GraphOf.{graph_of}
+use Rattle.tg_sharing.proofs.OneRight.{the_one, as_set}
+use Rattle.tg_sharing.proofs.answers.can_share.Goals as goal
+
+pub returns-clause-exact : goal.returns-clause-exact
+returns-clause-exact c =
+    let g = graph_of c.args.graph.now in
+    let answer = c.in_ok-answer.ensures.exact in (
+      λ yes. the_one g c.args.right c.of.result c.args.x c.args.y c.of.ensures.bit (answer.0 yes),
+      λ shared. answer.1 (as_set g c.args.right c.of.result c.args.x c.args.y c.of.ensures.bit shared),
+    )
+
+pub returns-clause-no : goal.returns-clause-no
+returns-clause-no c = λ no shared. c.in_ok-answer.ensures.no no (as_set (graph_of c.args.graph.now) c.args.right c.of.result c.args.x c.args.y c.of.ensures.bit shared)
