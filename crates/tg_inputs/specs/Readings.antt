@@ -1,5 +1,5 @@
 -- What the texts and the words of a command give, or the report of the first fault.
-use Rattle.std.specs.Prelude.{ℕ, List, [], ◌∷◌, codes, decimal, Result, Ok, Err, is_ok, ok_or, if◌then◌else◌, nat_eq, nat_lt, ◌||◌}
+use Rattle.std.specs.Prelude.{◌≡◌, ℕ, List, [], ◌∷◌, codes, decimal, Result, Ok, Err, is_ok, ok_or, if◌then◌else◌, nat_eq, nat_lt, ◌||◌}
 use Rattle.tg_names.specs.declared.right_sets.Right.{Right}
 use Rattle.tg_names.specs.declared.right_sets.Rights.{Rights}
 use Rattle.tg_names.specs.Letters.{set_of_letters}
