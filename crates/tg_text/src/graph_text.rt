@@ -12,9 +12,12 @@ ghost use Rattle.tg_text.specs.GraphText.{GraphSoFar, version_item, vertex_item,
 use std::alloc::Global;
 use tg_graph::{EdgeFault, Graph, GraphBuilder, Name, Rights, VertexFault};
 use tg_words::{
-    Items, LAST_VERSION, LineFault, TextFault, TextKind, Version, cut_edge, edge_rights_at,
-    header_number, name_at, one_word, read_lines, three_words,
+    Items, LineFault, TextFault, TextKind, Version, cut_edge, edge_rights_at, header_number,
+    name_at, one_word, read_lines, three_words,
 };
+
+/// The number of the last version.
+const LAST_VERSION: u32 = 2;
 
 fn add_vertex(graph: &mut GraphBuilder, version: Version, name: Name) -> Result<(), LineFault>
     ensures { Makes (with_new_vertex version (graph_built graph.old) name) result

@@ -22,7 +22,7 @@ pub use spelling::{
     LONGEST_NAME, LONGEST_NUMBER, LONGEST_REPLY, LONGEST_RIGHTS, LONGEST_RULE, append_number,
     append_reply, append_rule, put, put_name, put_rights, write_reply, write_rule,
 };
-pub use versions::{LAST_VERSION, Version};
+pub use versions::Version;
 pub use words::{
     edge_rights_at, four_words, header_number, name_at, no_words, number_up_to, one_word, right_at,
     rights_at, some_rights_at, three_words, word_and_some, word_and_two,

@@ -5,9 +5,6 @@ ghost use Rattle.tg_words.specs.Versions.{has_letters, limit_of, version_numbere
 use crate::limits::MOST_VERTICES_OF_ONE;
 use tg_graph::{MOST_VERTICES, Right, Rights};
 
-/// The number of the last version.
-pub const LAST_VERSION: u32 = 2;
-
 /// A version of the text of a graph.
 #[derive(Clone, Copy)]
 pub enum Version {
