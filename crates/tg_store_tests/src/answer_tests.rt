@@ -2,7 +2,6 @@
 use crate::scripts::Deed::{
     Abort, Begin, Commit, Create, Grant, Holds, Learn, PutOnce, Remove, Share, Take,
 };
-use crate::scripts::Row;
 use crate::scripts::Word::{
     AlreadyOpen, Changed, Did, Done, Empty, JournalFull, Learned, No, NoGrant, NoSeat, NoTake,
     NotHeld, NotOpen, Nothing, Put, Taken, Unknown, Yes,
@@ -13,7 +12,8 @@ use tg_graph::Right;
 
 #[test]
 fn begins_and_aborts(rt: HostRuntime) -> Result<(), Fail> {
-    const ROWS: [Row; 7] = [
+    let mut hall = hall_of_three(&rt, rt.alloc(), 4, 2)?;
+    let rows = [
         (3, Begin, NoSeat),
         (0, Abort, NoSeat),
         (1, Abort, NotOpen),
@@ -22,8 +22,7 @@ fn begins_and_aborts(rt: HostRuntime) -> Result<(), Fail> {
         (1, Abort, Done),
         (1, Abort, NotOpen),
     ];
-    let mut hall = hall_of_three(&rt, rt.alloc(), 4, 2)?;
-    events(&rt, &mut hall, &ROWS);
+    events(&rt, &mut hall, &rows);
     Ok(())
 }
 
@@ -48,7 +47,8 @@ fn records_learnt(rt: HostRuntime) -> Result<(), Fail> {
 
 #[test]
 fn sessions_put(rt: HostRuntime) -> Result<(), Fail> {
-    const ROWS: [Row; 11] = [
+    let mut hall = hall_of_three(&rt, rt.alloc(), 2, 3)?;
+    let rows = [
         (4, PutOnce, NoSeat),
         (1, PutOnce, NotOpen),
         (1, Begin, Done),
@@ -61,14 +61,14 @@ fn sessions_put(rt: HostRuntime) -> Result<(), Fail> {
         (3, PutOnce, Learned(1)),
         (3, PutOnce, JournalFull),
     ];
-    let mut hall = hall_of_three(&rt, rt.alloc(), 2, 3)?;
-    events(&rt, &mut hall, &ROWS);
+    events(&rt, &mut hall, &rows);
     Ok(())
 }
 
 #[test]
 fn steps_answered(rt: HostRuntime) -> Result<(), Fail> {
-    const ROWS: [Row; 19] = [
+    let mut hall = hall_of_three(&rt, rt.alloc(), 2, 1)?;
+    let rows = [
         (1, Begin, Done),
         (1, Remove(*b"az", b"r"), Unknown(b'z')),
         (1, Create(*b"ab", b"r"), Taken(b'b')),
@@ -90,14 +90,14 @@ fn steps_answered(rt: HostRuntime) -> Result<(), Fail> {
         (1, Remove(*b"bc", b"r"), Did),
         (1, Share(Right::R, *b"ac"), No),
     ];
-    let mut hall = hall_of_three(&rt, rt.alloc(), 2, 1)?;
-    acts(&rt, &mut hall, &ROWS);
+    acts(&rt, &mut hall, &rows);
     Ok(())
 }
 
 #[test]
 fn acts_of_no_seat_or_session(rt: HostRuntime) -> Result<(), Fail> {
-    const ROWS: [Row; 10] = [
+    let mut hall = hall_of_three(&rt, rt.alloc(), 2, 1)?;
+    let rows = [
         (2, Begin, NoSeat),
         (2, Holds(Right::T, *b"ab"), NoSeat),
         (2, Commit, NoSeat),
@@ -109,8 +109,7 @@ fn acts_of_no_seat_or_session(rt: HostRuntime) -> Result<(), Fail> {
         (1, Begin, AlreadyOpen),
         (1, Abort, Done),
     ];
-    let mut hall = hall_of_three(&rt, rt.alloc(), 2, 1)?;
-    acts(&rt, &mut hall, &ROWS);
+    acts(&rt, &mut hall, &rows);
     Ok(())
 }
 
@@ -133,14 +132,14 @@ fn what_a_seat_has_taken(rt: HostRuntime) -> Result<(), Fail> {
 // Three questions that no edge answers are enough for a session to keep what they found.
 #[test]
 fn three_questions_are_kept(rt: HostRuntime) -> Result<(), Fail> {
-    const ROWS: [Row; 4] = [
+    let mut hall = hall_of_three(&rt, rt.alloc(), 4, 1)?;
+    let rows = [
         (1, Begin, Done),
         (1, Share(Right::W, *b"ac"), No),
         (1, Share(Right::W, *b"ac"), No),
         (1, Share(Right::W, *b"ac"), No),
     ];
-    let mut hall = hall_of_three(&rt, rt.alloc(), 4, 1)?;
-    events(&rt, &mut hall, &ROWS);
+    events(&rt, &mut hall, &rows);
     assert!(rt; hall.knows_any());
     Ok(())
 }

@@ -37,25 +37,25 @@ fn bare_begin(rt: HostRuntime) -> Result<(), Fail> {
 
 #[test]
 fn events_refused(rt: HostRuntime) -> Result<(), Fail> {
-    const ROWS: [Row; 2] = [(1, Begin, AlreadyOpen), (1, Learn, Nothing)];
     let mut hall = hall_of_three(&rt, rt.alloc(), 4, 1)?;
     events(&rt, &mut hall, &[(2, Begin, NoSeat), (1, PutOnce, NotOpen)]);
     acts(&rt, &mut hall, &[(1, Begin, Done)]);
-    events(&rt, &mut hall, &ROWS);
+    let rows = [(1, Begin, AlreadyOpen), (1, Learn, Nothing)];
+    events(&rt, &mut hall, &rows);
     Ok(())
 }
 
 // Two sessions take the same right. The first is put, which changes the second.
 #[test]
 fn a_session_changed(rt: HostRuntime) -> Result<(), Fail> {
-    const ROWS: [Row; 3] = [
+    let mut hall = hall_of_three(&rt, rt.alloc(), 4, 2)?;
+    acts(&rt, &mut hall, &[(1, Begin, Done), (2, Begin, Done)]);
+    let rows = [
         (1, Take(*b"abc", b"r"), Did),
         (2, Take(*b"abc", b"r"), Did),
         (1, PutOnce, Put(0)),
     ];
-    let mut hall = hall_of_three(&rt, rt.alloc(), 4, 2)?;
-    acts(&rt, &mut hall, &[(1, Begin, Done), (2, Begin, Done)]);
-    if is_set_up(&rt, &mut hall, &ROWS) {
+    if is_set_up(&rt, &mut hall, &rows) {
         events(&rt, &mut hall, &[(2, PutOnce, Changed(0, b'a'))]);
     }
     Ok(())
@@ -101,13 +101,13 @@ fn halls_read(rt: HostRuntime) -> Result<(), Fail> {
 // graph shares in between.
 #[test]
 fn a_rule_after_a_question(rt: HostRuntime) -> Result<(), Fail> {
-    const ROWS: [Row; 3] = [
+    let mut hall = hall_of_three(&rt, rt.alloc(), 4, 1)?;
+    let rows = [
         (1, Begin, Done),
         (1, Take(*b"abc", b"r"), Did),
         (1, Share(Right::W, *b"ac"), No),
     ];
-    let mut hall = hall_of_three(&rt, rt.alloc(), 4, 1)?;
-    if is_set_up(&rt, &mut hall, &ROWS) {
+    if is_set_up(&rt, &mut hall, &rows) {
         events(&rt, &mut hall, &[(1, Remove(*b"ac", b"r"), Did)]);
     }
     Ok(())
@@ -138,13 +138,13 @@ fn refused_alike(rt: &impl process::Abort, first: &mut Hall, second: &mut Hall, 
 // Whether a hall's session has asked three questions, where memory was not refused for them, and knows
 // something, or has given it up and knows nothing.
 fn asked(rt: &impl process::Abort, hall: &mut Hall, knows: bool) -> bool {
-    const ROWS: [Row; 4] = [
+    let rows = [
         (1, Begin, Done),
         (1, Share(Right::W, *b"ac"), No),
         (1, Share(Right::W, *b"ac"), No),
         (1, Share(Right::W, *b"ac"), No),
     ];
-    if !is_set_up(rt, hall, &ROWS) {
+    if !is_set_up(rt, hall, &rows) {
         return false;
     }
     if !knows {
@@ -156,15 +156,15 @@ fn asked(rt: &impl process::Abort, hall: &mut Hall, knows: bool) -> bool {
 // A session that knows something is refused memory where one is that knows nothing.
 #[test]
 fn a_session_that_knows_after_one_that_does_not(rt: HostRuntime) -> Result<(), Fail> {
-    const ROWS: [Row; 3] = [
+    let mut knowing = hall_of_three(&rt, rt.alloc(), 4, 1)?;
+    let mut other = hall_of_three(&rt, rt.alloc(), 4, 1)?;
+    let rows = [
         (1, Take(*b"abc", b"r"), Did),
         (1, Remove(*b"bc", b"r"), Did),
         (1, PutOnce, Put(0)),
     ];
-    let mut knowing = hall_of_three(&rt, rt.alloc(), 4, 1)?;
-    let mut other = hall_of_three(&rt, rt.alloc(), 4, 1)?;
     if asked(&rt, &mut knowing, true) && asked(&rt, &mut other, false) {
-        refused_alike(&rt, &mut other, &mut knowing, &ROWS);
+        refused_alike(&rt, &mut other, &mut knowing, &rows);
     }
     Ok(())
 }
@@ -172,7 +172,9 @@ fn a_session_that_knows_after_one_that_does_not(rt: HostRuntime) -> Result<(), F
 // And nowhere else, at no question either.
 #[test]
 fn a_session_that_knows_before_one_that_does_not(rt: HostRuntime) -> Result<(), Fail> {
-    const ROWS: [Row; 7] = [
+    let mut knowing = hall_of_three(&rt, rt.alloc(), 4, 1)?;
+    let mut other = hall_of_three(&rt, rt.alloc(), 4, 1)?;
+    let rows = [
         (1, Share(Right::E, *b"ab"), No),
         (1, Take(*b"abc", b"r"), Did),
         (1, Share(Right::E, *b"ab"), No),
@@ -181,10 +183,8 @@ fn a_session_that_knows_before_one_that_does_not(rt: HostRuntime) -> Result<(), 
         (1, Remove(*b"bc", b"r"), Did),
         (1, PutOnce, Put(0)),
     ];
-    let mut knowing = hall_of_three(&rt, rt.alloc(), 4, 1)?;
-    let mut other = hall_of_three(&rt, rt.alloc(), 4, 1)?;
     if asked(&rt, &mut knowing, true) && asked(&rt, &mut other, false) {
-        refused_alike(&rt, &mut knowing, &mut other, &ROWS);
+        refused_alike(&rt, &mut knowing, &mut other, &rows);
     }
     Ok(())
 }

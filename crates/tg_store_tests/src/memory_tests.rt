@@ -103,28 +103,28 @@ fn ends(rt: &impl Abort, hall: &Hall, len: usize, x: u8, y: u8) {
 
 #[test]
 fn refused_acts(rt: HostRuntime) {
-    const ROWS: [Row; 5] = [
+    let mut hall = opened(&rt, rt.alloc());
+    let rows = [
         (1, Begin, Done),
         (1, Create(*b"ab", b"r"), Did),
         (1, Commit, Put(0)),
         (2, Begin, Done),
         (2, Share(Right::R, *b"ab"), Yes),
     ];
-    let mut hall = opened(&rt, rt.alloc());
-    act(&rt, &mut hall, &ROWS);
+    act(&rt, &mut hall, &rows);
     ends(&rt, &hall, 2, b'a', b'b');
 }
 
 #[test]
 fn refused_events(rt: HostRuntime) {
-    const ROWS: [Row; 4] = [
+    let mut hall = opened(&rt, rt.alloc());
+    let rows = [
         (1, Begin, Done),
         (1, Create(*b"ab", b"r"), Did),
         (1, PutOnce, Put(0)),
         (2, Learn, Learned(0)),
     ];
-    let mut hall = opened(&rt, rt.alloc());
-    happen(&rt, &mut hall, &ROWS);
+    happen(&rt, &mut hall, &rows);
     assert!(rt; hall.len() == 1);
     assert!(rt; hall.taken(2) == Some(1));
 }
@@ -132,7 +132,8 @@ fn refused_events(rt: HostRuntime) {
 // What a session asks before its first rule, and after each. It finds islands in between.
 #[test]
 fn refused_questions(rt: HostRuntime) {
-    const ROWS: [Row; 18] = [
+    let mut hall = opened(&rt, rt.alloc());
+    let rows = [
         (1, Begin, Done),
         (1, Create(*b"ab", b"tr"), Did),
         (1, PutOnce, Put(0)),
@@ -152,15 +153,15 @@ fn refused_questions(rt: HostRuntime) {
         (2, Learn, Learned(0)),
         (2, Learn, Learned(1)),
     ];
-    let mut hall = opened(&rt, rt.alloc());
-    happen(&rt, &mut hall, &ROWS);
+    happen(&rt, &mut hall, &rows);
     ends(&rt, &hall, 4, b'b', b'c');
 }
 
 // A record is taken in under an open session, which goes on from where it was.
 #[test]
 fn refused_under_a_session(rt: HostRuntime) {
-    const ROWS: [Row; 12] = [
+    let mut hall = opened(&rt, rt.alloc());
+    let rows = [
         (1, Begin, Done),
         (1, Create(*b"ab", b"r"), Did),
         (1, PutOnce, Put(0)),
@@ -174,8 +175,7 @@ fn refused_under_a_session(rt: HostRuntime) {
         (2, Create(*b"be", b"r"), Did),
         (2, PutOnce, Put(2)),
     ];
-    let mut hall = opened(&rt, rt.alloc());
-    happen(&rt, &mut hall, &ROWS);
+    happen(&rt, &mut hall, &rows);
     ends(&rt, &hall, 5, b'b', b'e');
 }
 
@@ -209,13 +209,13 @@ fn refused_in_a_run(rt: HostRuntime) {
 // The first seat puts a session that creates b, and opens another, which asks until it knows something, also
 // where memory is refused for it once.
 fn know(rt: &impl Abort, hall: &mut Hall) {
-    const ROWS: [Row; 4] = [
+    let rows = [
         (1, Begin, Done),
         (1, Create(*b"ab", b"tr"), Did),
         (1, PutOnce, Put(0)),
         (1, Begin, Done),
     ];
-    happen(rt, hall, &ROWS);
+    happen(rt, hall, &rows);
     for _ in 0..4 {
         happened(rt, hall, &(1, Share(Right::W, *b"ab"), No));
     }
@@ -231,16 +231,16 @@ fn is_refused_beside(rt: &impl Abort, knew: bool, reply: HallReply) -> bool {
 
 #[test]
 fn events_beside_a_session_that_knows(rt: HostRuntime) {
-    const ROWS: [Row; 5] = [
+    let mut hall = opened(&rt, rt.alloc());
+    know(&rt, &mut hall);
+    let rows = [
         (2, Learn, Learned(0)),
         (2, Begin, Done),
         (2, Create(*b"bc", b"r"), Did),
         (2, Share(Right::W, *b"bc"), No),
         (2, PutOnce, Put(1)),
     ];
-    let mut hall = opened(&rt, rt.alloc());
-    know(&rt, &mut hall);
-    for row in &ROWS {
+    for row in &rows {
         let (seat, deed, word) = *row;
         let knew = hall.knows_any();
         let reply = hall.step(event_of(&rt, seat, deed));

@@ -5,7 +5,7 @@ ghost use Rattle.tg_store.specs.Running.{IsOf};
 use crate::desks::{Desk, agreeing, met, opened};
 use crate::scripts::Deed::{Abort, Begin, Commit, Holds, Share, Take};
 use crate::scripts::Word::{Did, Done, No, Put, Yes};
-use crate::scripts::{Row, name, step_of};
+use crate::scripts::{name, step_of};
 use crate::test_helpers::{graph, shows};
 use std::alloc::{AllocError, Global};
 use std::test::Fail;
@@ -16,15 +16,15 @@ use tg_store::{Begun, Committed, Seat, Session, Store};
 // A store of four cells, over the vertices a, b and c, where the first seat has put that a takes r
 // over c from b.
 fn first_put(rt: &impl process::Abort, alloc: Global) -> Result<Desk, Fail> {
-    const ROWS: [Row; 3] = [
+    let g = graph(rt, alloc, b"abc", &[*b"abt", *b"bcr"])?;
+    let (store, one, two) = opened(alloc, &g, 4)?;
+    let mut desk = Desk::new(store, one, two);
+    let rows = [
         (1, Begin, Done),
         (1, Take(*b"abc", b"r"), Did),
         (1, Commit, Put(0)),
     ];
-    let g = graph(rt, alloc, b"abc", &[*b"abt", *b"bcr"])?;
-    let (store, one, two) = opened(alloc, &g, 4)?;
-    let mut desk = Desk::new(store, one, two);
-    desk.play(rt, &ROWS);
+    desk.play(rt, &rows);
     assert!(rt; desk.seat(rt, 1).taken() == 1);
     Ok(desk)
 }
@@ -42,12 +42,6 @@ fn nothing_put_in_passing(rt: HostRuntime) -> Result<(), Fail> {
 // Both agree once they have met, and neither alone.
 #[test]
 fn seats_that_meet(rt: HostRuntime) -> Result<(), Fail> {
-    const ROWS: [Row; 4] = [
-        (2, Begin, Done),
-        (2, Holds(Right::R, *b"ac"), Yes),
-        (2, Share(Right::W, *b"ac"), No),
-        (2, Abort, Done),
-    ];
     let mut desk = first_put(&rt, rt.alloc())?;
     desk.meet(&rt);
     assert!(rt; desk.knows(&rt, 2, 0));
@@ -56,7 +50,13 @@ fn seats_that_meet(rt: HostRuntime) -> Result<(), Fail> {
     assert!(rt; !desk.agreed_alone(&rt));
     assert!(rt; !desk.agreed_of_none());
     shows(&rt, desk.seat(&rt, 2).graph(), 3, &[(*b"ac", b"r")]);
-    desk.play(&rt, &ROWS);
+    let rows = [
+        (2, Begin, Done),
+        (2, Holds(Right::R, *b"ac"), Yes),
+        (2, Share(Right::W, *b"ac"), No),
+        (2, Abort, Done),
+    ];
+    desk.play(&rt, &rows);
     assert!(rt; desk.seat(&rt, 2).taken() == 1);
     Ok(())
 }

@@ -69,7 +69,9 @@ fn stands(
 // The seat that was refused begins again on what the other has done.
 #[test]
 fn a_row_that_was_read(rt: HostRuntime) -> Result<(), Fail> {
-    const ROWS: [Row; 8] = [
+    let edges = [*b"abt", *b"acw", *b"bat", *b"bcr"];
+    let g = graph(&rt, rt.alloc(), b"abc", &edges)?;
+    let rows = [
         (1, Begin, Done),
         (2, Begin, Done),
         (1, Take(*b"abc", b"r"), Did),
@@ -79,19 +81,18 @@ fn a_row_that_was_read(rt: HostRuntime) -> Result<(), Fail> {
         (2, Begin, Done),
         (2, Abort, Done),
     ];
-    const LABELS: [Label; 2] = [(*b"ac", b"rw"), (*b"bc", b"r")];
-    let edges = [*b"abt", *b"acw", *b"bat", *b"bcr"];
-    let g = graph(&rt, rt.alloc(), b"abc", &edges)?;
-    in_hall(&rt, rt.alloc(), &g, &ROWS, 3, &LABELS);
-    let desk = in_store(&rt, rt.alloc(), &g, 8, &ROWS);
-    stands(&rt, &desk, 1, 1, 3, &LABELS);
-    stands(&rt, &desk, 2, 1, 3, &LABELS);
+    let labels: [Label; 2] = [(*b"ac", b"rw"), (*b"bc", b"r")];
+    in_hall(&rt, rt.alloc(), &g, &rows, 3, &labels);
+    let desk = in_store(&rt, rt.alloc(), &g, 8, &rows);
+    stands(&rt, &desk, 1, 1, 3, &labels);
+    stands(&rt, &desk, 2, 1, 3, &labels);
     Ok(())
 }
 
 #[test]
 fn a_name_that_was_no_vertex(rt: HostRuntime) -> Result<(), Fail> {
-    const ROWS: [Row; 6] = [
+    let g = graph(&rt, rt.alloc(), b"abc", &[*b"abt"])?;
+    let rows = [
         (1, Begin, Done),
         (1, Take(*b"abn", b"r"), Unknown(b'n')),
         (2, Begin, Done),
@@ -99,18 +100,18 @@ fn a_name_that_was_no_vertex(rt: HostRuntime) -> Result<(), Fail> {
         (2, Commit, Put(0)),
         (1, Commit, Changed(0, b'n')),
     ];
-    const LABELS: [Label; 2] = [(*b"ab", b"t"), (*b"cn", b"r")];
-    let g = graph(&rt, rt.alloc(), b"abc", &[*b"abt"])?;
-    in_hall(&rt, rt.alloc(), &g, &ROWS, 4, &LABELS);
-    let desk = in_store(&rt, rt.alloc(), &g, 8, &ROWS);
+    let labels: [Label; 2] = [(*b"ab", b"t"), (*b"cn", b"r")];
+    in_hall(&rt, rt.alloc(), &g, &rows, 4, &labels);
+    let desk = in_store(&rt, rt.alloc(), &g, 8, &rows);
     stands(&rt, &desk, 1, 0, 3, &[(*b"ab", b"t")]);
-    stands(&rt, &desk, 2, 1, 4, &LABELS);
+    stands(&rt, &desk, 2, 1, 4, &labels);
     Ok(())
 }
 
 #[test]
 fn two_sessions_apart(rt: HostRuntime) -> Result<(), Fail> {
-    const ROWS: [Row; 6] = [
+    let g = graph(&rt, rt.alloc(), b"abcd", &[*b"abt", *b"bcr"])?;
+    let rows = [
         (1, Begin, Done),
         (2, Begin, Done),
         (1, Take(*b"abc", b"r"), Did),
@@ -118,11 +119,10 @@ fn two_sessions_apart(rt: HostRuntime) -> Result<(), Fail> {
         (2, Commit, Put(0)),
         (1, Commit, Put(1)),
     ];
-    const LABELS: [Label; 2] = [(*b"ac", b"r"), (*b"dn", b"g")];
-    let g = graph(&rt, rt.alloc(), b"abcd", &[*b"abt", *b"bcr"])?;
-    in_hall(&rt, rt.alloc(), &g, &ROWS, 5, &LABELS);
-    let desk = in_store(&rt, rt.alloc(), &g, 8, &ROWS);
-    stands(&rt, &desk, 1, 2, 5, &LABELS);
+    let labels: [Label; 2] = [(*b"ac", b"r"), (*b"dn", b"g")];
+    in_hall(&rt, rt.alloc(), &g, &rows, 5, &labels);
+    let desk = in_store(&rt, rt.alloc(), &g, 8, &rows);
+    stands(&rt, &desk, 1, 2, 5, &labels);
     stands(&rt, &desk, 2, 1, 5, &[(*b"dn", b"g"), (*b"ac", b"-")]);
     Ok(())
 }
@@ -130,7 +130,8 @@ fn two_sessions_apart(rt: HostRuntime) -> Result<(), Fail> {
 // A look finds what is there: without a front, a seat that begins takes in what another has put.
 #[test]
 fn questions_after_a_commit(rt: HostRuntime) -> Result<(), Fail> {
-    const ROWS: [Row; 7] = [
+    let g = graph(&rt, rt.alloc(), b"abc", &[*b"abt", *b"bcr"])?;
+    let rows = [
         (1, Begin, Done),
         (1, Take(*b"abc", b"r"), Did),
         (1, Commit, Put(0)),
@@ -139,18 +140,18 @@ fn questions_after_a_commit(rt: HostRuntime) -> Result<(), Fail> {
         (2, Share(Right::W, *b"ac"), No),
         (2, Commit, Put(1)),
     ];
-    const LABELS: [Label; 1] = [(*b"ac", b"r")];
-    let g = graph(&rt, rt.alloc(), b"abc", &[*b"abt", *b"bcr"])?;
-    in_hall(&rt, rt.alloc(), &g, &ROWS, 3, &LABELS);
-    let desk = in_store(&rt, rt.alloc(), &g, 8, &ROWS);
-    stands(&rt, &desk, 1, 1, 3, &LABELS);
-    stands(&rt, &desk, 2, 2, 3, &LABELS);
+    let labels: [Label; 1] = [(*b"ac", b"r")];
+    in_hall(&rt, rt.alloc(), &g, &rows, 3, &labels);
+    let desk = in_store(&rt, rt.alloc(), &g, 8, &rows);
+    stands(&rt, &desk, 1, 1, 3, &labels);
+    stands(&rt, &desk, 2, 2, 3, &labels);
     Ok(())
 }
 
 #[test]
 fn sharing_rests_on_all_names(rt: HostRuntime) -> Result<(), Fail> {
-    const CHANGED: [Row; 6] = [
+    let g = graph(&rt, rt.alloc(), b"abc", &[*b"abt", *b"bcr"])?;
+    let changed = [
         (1, Begin, Done),
         (2, Begin, Done),
         (1, Share(Right::W, *b"ac"), No),
@@ -158,7 +159,8 @@ fn sharing_rests_on_all_names(rt: HostRuntime) -> Result<(), Fail> {
         (2, Commit, Put(0)),
         (1, Commit, Changed(0, b'b')),
     ];
-    const EMPTY: [Row; 6] = [
+    in_hall(&rt, rt.alloc(), &g, &changed, 4, &[]);
+    let empty = [
         (1, Begin, Done),
         (2, Begin, Done),
         (1, Share(Right::R, *b"ac"), Yes),
@@ -166,15 +168,14 @@ fn sharing_rests_on_all_names(rt: HostRuntime) -> Result<(), Fail> {
         (2, Commit, Put(0)),
         (1, Commit, Put(1)),
     ];
-    let g = graph(&rt, rt.alloc(), b"abc", &[*b"abt", *b"bcr"])?;
-    in_hall(&rt, rt.alloc(), &g, &CHANGED, 4, &[]);
-    in_hall(&rt, rt.alloc(), &g, &EMPTY, 3, &[]);
+    in_hall(&rt, rt.alloc(), &g, &empty, 3, &[]);
     Ok(())
 }
 
 #[test]
 fn one_cell(rt: HostRuntime) -> Result<(), Fail> {
-    const ROWS: [Row; 7] = [
+    let g = Graph::new(rt.alloc());
+    let rows = [
         (1, Begin, Done),
         (1, Commit, Put(0)),
         (1, Commit, NotOpen),
@@ -183,11 +184,10 @@ fn one_cell(rt: HostRuntime) -> Result<(), Fail> {
         (1, Begin, Done),
         (1, Abort, Done),
     ];
-    let g = Graph::new(rt.alloc());
     let mut hall = Hall::new(rt.alloc(), &g, 1, 1)?;
-    acts(&rt, &mut hall, &ROWS);
+    acts(&rt, &mut hall, &rows);
     assert!(rt; hall.len() == 1);
-    let desk = in_store(&rt, rt.alloc(), &g, 1, &ROWS);
+    let desk = in_store(&rt, rt.alloc(), &g, 1, &rows);
     stands(&rt, &desk, 1, 1, 0, &[]);
     stands(&rt, &desk, 2, 0, 0, &[]);
     Ok(())
@@ -216,7 +216,10 @@ fn in_full_hall(rt: &impl process::Abort, alloc: Global, graph: &Graph, rows: &[
 
 // A record that crowds a session ends it when it is learnt, too.
 fn in_crowded_hall(rt: &impl process::Abort, alloc: Global, graph: &Graph) {
-    const ROWS: [Row; 6] = [
+    let Ok(mut hall) = Hall::new(alloc, graph, 8, 2) else {
+        panic!(rt; "no hall");
+    };
+    let rows = [
         (1, Begin, Done),
         (2, Begin, Done),
         (1, Create(*b"0p", b"-"), Did),
@@ -224,10 +227,7 @@ fn in_crowded_hall(rt: &impl process::Abort, alloc: Global, graph: &Graph) {
         (1, PutOnce, Put(0)),
         (2, Learn, Crowded(0)),
     ];
-    let Ok(mut hall) = Hall::new(alloc, graph, 8, 2) else {
-        panic!(rt; "no hall");
-    };
-    events(rt, &mut hall, &ROWS);
+    events(rt, &mut hall, &rows);
 }
 
 // The second seat, which was crowded, begins again on what the first has done.
@@ -255,7 +255,9 @@ fn refused(
 
 #[test]
 fn full_graphs(rt: HostRuntime) -> Result<(), Fail> {
-    const ROWS: [Row; 7] = [
+    let alloc = rt.alloc();
+    let mut g = vertices(alloc, 4095)?;
+    let rows = [
         (1, Begin, Done),
         (2, Begin, Done),
         (1, Create(*b"0p", b"-"), Did),
@@ -264,11 +266,9 @@ fn full_graphs(rt: HostRuntime) -> Result<(), Fail> {
         (1, Commit, Put(0)),
         (2, Commit, Crowded(0)),
     ];
-    let alloc = rt.alloc();
-    let mut g = vertices(alloc, 4095)?;
-    in_full_hall(&rt, alloc, &g, &ROWS);
+    in_full_hall(&rt, alloc, &g, &rows);
     in_crowded_hall(&rt, alloc, &g);
-    in_full_store(&rt, alloc, &g, &ROWS);
+    in_full_store(&rt, alloc, &g, &rows);
     g.add_vertex(name(&rt, b'p'))?;
     g.add_vertex(name(&rt, b'q'))?;
     refused(&rt, alloc, &g, 1, 1, StoreFault::TooManyVertices);
@@ -291,7 +291,9 @@ fn limits(rt: HostRuntime) {
 
 #[test]
 fn three_seats(rt: HostRuntime) -> Result<(), Fail> {
-    const ROWS: [Row; 9] = [
+    let g = graph(&rt, rt.alloc(), b"abcd", &[*b"abt", *b"bcr"])?;
+    let mut hall = Hall::new(rt.alloc(), &g, 8, 3)?;
+    let rows = [
         (1, Begin, Done),
         (2, Begin, Done),
         (3, Begin, Done),
@@ -302,9 +304,7 @@ fn three_seats(rt: HostRuntime) -> Result<(), Fail> {
         (2, Commit, Put(1)),
         (3, Commit, Changed(1, b'd')),
     ];
-    let g = graph(&rt, rt.alloc(), b"abcd", &[*b"abt", *b"bcr"])?;
-    let mut hall = Hall::new(rt.alloc(), &g, 8, 3)?;
-    acts(&rt, &mut hall, &ROWS);
+    acts(&rt, &mut hall, &rows);
     // it rests on the first record alone: n is no vertex there
     rests(&rt, &hall, 3, 1, 4, &[(*b"ac", b"r")]);
     Ok(())
