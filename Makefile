@@ -1,8 +1,8 @@
 # make demo       proves and builds the program, and shows it on the file service of examples/
 # make examples   compares what each example prints with what is stored beside it
 # make pictures   draws the examples; wants Graphviz
-# make test       the merge gate, rt ci: 2.75 hours on four slow processors from nothing, by estimate;
-#                 minutes where a toolchain keeps on its machine what it proved
+# make test       the merge gate, rt ci: from nothing two hours on four processors of 2.5 GHz, by estimate,
+#                 and 2.75 on slower ones; minutes where a toolchain keeps on its machine what it proved
 # make bodies     the wrong bodies alone, ten at once
 # make refusals   the memory tests with each request for memory refused in turn: seconds, once the
 #                 gate or rt test has built the tests
