@@ -1,0 +1,99 @@
+"""Which rights the rules of a cluster give: edges from who has them to what they are over."""
+from collections import defaultdict
+from itertools import product
+
+from rbac_parts.listing import ACCOUNT_KINDS, Rule, Thing
+
+READING, CHANGING = {"get", "list", "watch"}, {"create", "update", "patch"}
+DELETING, HANDING_OVER = {"delete", "deletecollection"}, {"bind", "escalate"}
+ROLE_KINDS = ("roles", "clusterroles", "rolebindings", "clusterrolebindings")
+POD_MAKERS = ("pods", "podtemplates", "replicationcontrollers", "replicasets", "deployments",
+              "daemonsets", "statefulsets", "jobs", "cronjobs")
+WAYS_INTO_PODS = ("pods/exec", "pods/attach", "pods/ephemeralcontainers", "nodes/proxy")
+NO_NEW_THINGS = {"secrets", "serviceaccounts/token", *ACCOUNT_KINDS, *WAYS_INTO_PODS}
+EVERYTHING = Rule(frozenset("*"), frozenset("*"), frozenset())
+
+
+class Rights:
+    """What the rules of a cluster come to. Kinds that rules name become things of the cluster."""
+
+    def __init__(self, cluster):
+        self.cluster, self.things, self.tokens = cluster, cluster.things, cluster.tokens
+
+    def permissions(self):
+        """Who has which rule in which namespace. Who may bind or escalate roles may come to all."""
+        for account, role, scope in self.cluster.bindings:
+            rules = self.cluster.roles.get(role, [])
+            if any(allows(rule, HANDING_OVER, *ROLE_KINDS) for rule in rules):
+                rules = rules + [EVERYTHING]
+            members = self.cluster.members(account)
+            yield from ((who, rule, scope) for who in members for rule in rules)
+
+    def edges(self):
+        """The rights that each thing has over others, as sets of letters."""
+        edges, holders = defaultdict(set), defaultdict(set)
+        for account, rule, scope in self.permissions():
+            holders[rule, scope].add(account)
+            for kind in rule.resources - NO_NEW_THINGS:
+                if "*" not in kind:
+                    self.things[kind].add(Thing(kind, scope, ""))
+        for (rule, scope), accounts in holders.items():
+            for (right, thing), account in product(self.rights_of(rule, scope), accounts):
+                edges[account, thing].add(right)
+        entered = {y for (_, y), rights in edges.items() if "t" in rights and y.kind == "pods"}
+        for pods, thing in self.mounts():
+            if pods in entered:
+                edges[pods, thing].add("r")
+        for (holder, thing), rights in list(edges.items()):
+            if "r" in rights and thing in self.tokens:
+                edges[holder, self.tokens[thing]].add("t")
+        return edges
+
+    def rights_of(self, rule, scope):
+        """What a rule allows in its namespace: pairs of a right and what it is over."""
+        other = rule.verbs - READING - CHANGING - DELETING - HANDING_OVER - {"impersonate"}
+        plain = {"r": READING, "w": CHANGING, "d": DELETING, "e": other}
+        for kind, right in product(self.things.keys() - {"users", "groups"}, plain):
+            if allows(rule, plain[right], kind):
+                yield from ((right, thing) for thing in self.matching(rule, scope, kind))
+        yield from (("t", account) for account in self.run_as(rule, scope))
+        if allows(rule, CHANGING | HANDING_OVER, *ROLE_KINDS):
+            yield from (("g", account) for account in self.cluster.accounts)
+
+    def run_as(self, rule, scope):
+        """The accounts that a rule lets one run as, and the pods that one may start or enter."""
+        every, secrets = rule._replace(names=()), self.matching(rule, scope, "secrets")
+        tokens = secrets & self.tokens.keys()
+        enters = allows(rule, CHANGING, *POD_MAKERS) or allows(rule, rule.verbs, *WAYS_INTO_PODS)
+        fills = allows(rule, {"create"}, "secrets") or tokens and allows(rule, CHANGING, "secrets")
+        ways = [(allows(rule, {"impersonate"}, kind), rule, kind) for kind in ACCOUNT_KINDS] + [
+            (allows(rule, {"create"}, "serviceaccounts/token"), rule, "serviceaccounts"),
+            (enters or fills, every, "serviceaccounts"), (enters, every, "pods")]
+        return {thing for open_way, rule, kind in ways if open_way
+                for thing in self.matching(rule, scope, kind)}
+
+    def matching(self, rule, scope, kind):
+        """The things of a kind, in the namespaces in scope, that a rule is for."""
+        return {thing for thing in self.things[kind] if scope in ("", thing.namespace)
+                and (not rule.names or not thing.name or thing.name in rule.names)}
+
+    def mounts(self):
+        """The pods of each namespace with what they may mount: its secrets and its configmaps."""
+        yield from ((self.of_kind("pods", secret.namespace), secret)
+                    for secret in self.things["secrets"])
+        places = {thing.namespace for kind in ("pods", "configmaps") for thing in self.things[kind]}
+        pairs = ((self.of_kind("pods", place), self.of_kind("configmaps", place))
+                 for place in places)
+        yield from (pair for pair in pairs if None not in pair)
+
+    def of_kind(self, kind, place):
+        """What stands for a kind in a namespace: its own vertex or that of all, None if neither."""
+        ways = (Thing(kind, place, ""), Thing(kind, "", ""))
+        return next((thing for thing in ways if thing in self.things[kind]), None)
+
+
+def allows(rule, verbs, *kinds):
+    """Whether a rule has one of these verbs for one of these kinds."""
+    return bool("*" in rule.verbs or rule.verbs & verbs) and any(
+        pattern in ("*", kind) or pattern.startswith("*/") and kind.endswith(pattern[1:])
+        for pattern in rule.resources for kind in kinds)
