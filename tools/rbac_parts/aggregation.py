@@ -49,7 +49,7 @@ def aggregated(rules, labels, selectors):
     """
     chosen = {
         role: [other for other in labels if any(chooses(tests, labels[other]) for tests in asked)]
-        for role, asked in selectors.items()}
+        for role, asked in selectors.items() if asked}
     return {role: list(dict.fromkeys(rule for other in met_from(role, chosen)
                                      for rule in rules[other])) for role in rules}
 

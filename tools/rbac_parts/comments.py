@@ -36,7 +36,7 @@ def difference(name, comments, remainder, things):
         return "it is no vertex of the graph"
     thing = things[name]
     wanted = legend(thing, name)
-    is_left_out = thing not in remainder.bits
+    is_left_out = thing not in remainder.through
     if not is_left_out and comments and comments == wanted * (len(comments) // len(wanted)):
         return None
     said = "".join(line[WORDS_AT:] for line in comments)

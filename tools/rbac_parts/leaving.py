@@ -9,133 +9,125 @@ has. So no way between those that stay is lost, whatever stands on it.
 """
 from collections import defaultdict, deque
 
-LETTERS = "tgrwead"
-
-
-def places_in(mask):
-    """The places in a mask, in order."""
-    digits = bin(mask)[:1:-1]
-    place = digits.find("1")
-    while place >= 0:
-        yield place
-        place = digits.find("1", place + 1)
-
-
-def count_of(mask):
-    """How many places are in a mask."""
-    return bin(mask).count("1")
+from rbac_parts.graphs import count_of, labels_in, over_whom, places_in
 
 
 class Remainder:
-    """The things that stay, the rights among them, and what came of leaving out.
+    """The things that stay, in the order of their names, and the rights among them.
 
-    Those that stay have places in name order. A set of them is a mask, an integer that has bit i
-    for the place i; the rights of a thing are a mask for each letter. `rows` has the rights of
-    each place. `through` has, of each place, pairs of a left-out thing and a mask: over whom the
-    place has rights that are not its own, which it comes to by that thing, the first in name order.
-    `brings` has of each left-out thing how many such edges it brings, and the mask of their ends.
+    `rows` has the row of each. `through` has of each in turn pairs of a left-out thing and a mask:
+    over whom it has rights that are not its own and that it comes to by that thing, the first in
+    name order.
     """
 
-    def __init__(self, names, edges, left_out):
-        self.names, in_order = names, sorted(names, key=names.get)
+    def __init__(self, names, graph, left_out):
+        self.names, self.graph, in_order = names, graph, sorted(names, key=names.get)
         self.kept = [thing for thing in in_order if thing not in left_out]
         self.left_out = [thing for thing in in_order if thing in left_out]
-        self.bits = {thing: 1 << place for place, thing in enumerate(self.kept)}
-        self.held = {thing: defaultdict(int) for thing in in_order}
-        self.takers, self.granters = defaultdict(int), defaultdict(int)
-        self.takes, self.grants = defaultdict(list), defaultdict(list)
-        for (x, y), rights in edges.items():
-            self.add_edge(x, y, rights)
-        self.rows = [defaultdict(int, self.held[thing]) for thing in self.kept]
-        self.through, self.told = [[] for _ in self.kept], [0] * len(self.kept)
-        self.brings = {}
-        self.spread()
+        self.own, self.rows = {}, {}
+        stays = graph.mask_of(self.kept)
+        for thing in in_order:
+            row = graph.rows[thing]
+            self.own[thing] = {right: mask & stays for right, mask in row.items() if mask & stays}
+            self.rows[thing] = defaultdict(int, self.own[thing])
+        self.takers, self.granters = self.those_with("t"), self.those_with("g")
+        self.fetchers = dict.fromkeys(self.left_out, 0)
+        self.through, self.told = {thing: [] for thing in self.kept}, defaultdict(int)
+        self.passed = {}
+        self.spread_takers()
+        self.spread_granters()
         for thing in self.left_out:
             self.pass_on(thing)
 
-    def add_edge(self, x, y, rights):
-        """Takes in an edge: rights over one that stays, or a way to one that is left out."""
-        if y in self.bits:
-            for right in rights:
-                self.held[x][right] |= self.bits[y]
-        elif x in self.bits:
-            self.takers[y] |= self.bits[x] * ("t" in rights)
-            self.granters[y] |= self.bits[x] * ("g" in rights)
-        else:
-            self.takes[x] += [y] * ("t" in rights)
-            self.grants[x] += [y] * ("g" in rights)
+    def those_with(self, right):
+        """Of each left-out thing, which of those that stay have a right over it."""
+        found, gone = dict.fromkeys(self.left_out, 0), self.graph.mask_of(self.left_out)
+        for thing in self.kept:
+            for other in self.graph.things_in(self.graph.rows[thing][right] & gone):
+                found[other] |= self.graph.bits[thing]
+        return found
 
-    def spread(self):
-        """Finds all takers and granters of each left-out thing, from those with an edge to it."""
-        todo, waiting = deque(self.left_out), set(self.left_out)
+    def ways(self, right):
+        """The left-out things over which each left-out thing has a right."""
+        gone = self.graph.mask_of(self.left_out)
+        return {thing: self.graph.things_in(self.graph.rows[thing][right] & gone)
+                for thing in self.left_out}
+
+    def spread_takers(self):
+        """Makes whoever takes from a left-out thing a taker of all from which that one takes."""
+        ways, todo, waiting = self.ways("t"), deque(self.left_out), set(self.left_out)
         while todo:
             thing = todo.popleft()
             waiting.discard(thing)
-            grown = [it for it in self.takes[thing] if self.takers[thing] & ~self.takers[it]]
+            mask = self.takers[thing]
+            grown = [it for it in ways[thing] if mask & ~self.takers[it]]
             for it in grown:
-                self.takers[it] |= self.takers[thing]
+                self.takers[it] |= mask
             todo.extend(it for it in grown if it not in waiting)
             waiting.update(grown)
-        for thing, others in self.grants.items():
+
+    def spread_granters(self):
+        """Finds the granters that are takers, and who fetches what takers of each may leave."""
+        for thing, others in self.ways("g").items():
             for it in others:
                 self.granters[it] |= self.takers[thing]
+                self.fetchers[thing] |= self.takers[it]
 
     def pass_on(self, thing):
-        """Gives those who come to a left-out thing, or may grant to it, what they get by it."""
-        takers, granters, fetchers = self.takers[thing], self.granters[thing], 0
-        for other in self.grants[thing]:
-            fetchers |= self.takers[other]
-        ends, count = 0, 0
-        for place in places_in(takers | granters if takers else 0):
-            bit = 1 << place
-            given = dict(self.held[thing]) if takers & bit else {}
-            fetched = (fetchers if takers & bit else 0) | (takers if granters & bit else 0)
-            given["g"] = given.get("g", 0) | fetched & ~bit
-            new = self.give(place, given, thing)
-            ends, count = ends | new, count + count_of(new)
-        self.brings[thing] = count, ends
+        """Gives those who take from a left-out thing, or grant to it, what they get by it."""
+        takers, fetchers = self.takers[thing], self.fetchers[thing]
+        granters = self.granters[thing] if takers else 0
+        if self.was_passed_on((takers, fetchers, granters), self.own[thing]):
+            return
+        for it in self.graph.things_in(takers | granters):
+            bit = self.graph.bits[it]
+            given = list(self.own[thing].items()) if takers & bit else []
+            if takers & bit and fetchers:
+                given.append(("g", fetchers & ~bit))
+            if granters & bit:
+                given.append(("g", takers & ~bit))
+            self.give(it, given, thing)
 
-    def give(self, place, given, thing):
-        """Gives a place rights by a left-out thing. It answers over whom some are not its own."""
-        row, own, new = self.rows[place], self.held[self.kept[place]], 0
-        for right, mask in given.items():
+    def was_passed_on(self, ends, row):
+        """Whether what has these takers, fetchers and granters brings nothing with its row.
+
+        So it is where earlier ones with the same have brought all of it.
+        """
+        is_new = ends not in self.passed
+        before = self.passed.setdefault(ends, defaultdict(int))
+        more = {right: mask for right, mask in row.items() if mask & ~before[right]}
+        for right, mask in more.items():
+            before[right] |= mask
+        return not is_new and not more
+
+    def give(self, it, given, thing):
+        """Gives one that stays rights that it comes to by a left-out thing."""
+        row, own, new = self.rows[it], self.own[it], 0
+        for right, mask in given:
             row[right] |= mask
             new |= mask & ~own.get(right, 0)
-        first = new & ~self.told[place]
-        if first:
-            self.told[place] |= first
-            self.through[place].append((thing, first))
-        return new
+        new &= ~self.told[it]
+        if new:
+            self.told[it] |= new
+            self.through[it].append((thing, new))
 
     def count(self):
         """How many edges there are."""
-        return sum(count_of(over_whom(row)) for row in self.rows)
+        return sum(count_of(over_whom(self.rows[thing])) for thing in self.kept)
 
     def count_new(self):
-        """How many of them came of leaving out, at least for one of their rights."""
-        return sum(map(count_of, self.told))
+        """How many of them have rights that came of leaving out."""
+        return sum(map(count_of, self.told.values()))
+
+    def by_whom(self, thing):
+        """Over whom a thing that stays has rights that came of leaving out, and by whom: names."""
+        names, things = self.names, self.graph.things
+        return sorted((names[things[place]], names[hub]) for hub, mask in self.through[thing]
+                      for place in places_in(mask))
 
     def edges(self):
-        """The edges among those that stay: two names and the letters, in name order."""
-        names = [self.names[thing] for thing in self.kept]
-        for name, row in zip(names, self.rows):
-            yield from ((name, names[place], label) for place, label in labels_in(row))
-
-
-def over_whom(row):
-    """The mask of those over whom a row has some right."""
-    whole = 0
-    for mask in row.values():
-        whole |= mask
-    return whole
-
-
-def labels_in(row):
-    """What a row has over whom: pairs of a place and its letters, in order."""
-    parts = [("", over_whom(row))]
-    for right in LETTERS:
-        mask = row.get(right, 0)
-        halves = [half for label, part in parts
-                  for half in ((label + right, part & mask), (label, part & ~mask))]
-        parts = [(label, part) for label, part in halves if part]
-    return sorted((place, label) for label, part in parts for place in places_in(part))
+        """The edges from each thing that stays: its name, and pairs of a name and its letters."""
+        names, things = self.names, self.graph.things
+        for thing in self.kept:
+            pairs = labels_in(self.rows[thing])
+            yield names[thing], sorted((names[things[place]], label) for place, label in pairs)

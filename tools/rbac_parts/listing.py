@@ -91,8 +91,10 @@ class Cluster:
 
     def members(self, account):
         """An account and, if it is a group that each cluster has, who is in it."""
+        if account.kind != "groups" or not account.name.startswith("system:"):
+            return {account}
         return {account} | {
-            other for other in self.accounts if account.kind == "groups" and account.name in (
+            other for other in self.accounts if account.name in (
                 "system:authenticated", "system:unauthenticated",
                 f"system:{other.kind}", f"system:{other.kind}:{other.namespace}")}
 

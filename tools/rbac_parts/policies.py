@@ -8,11 +8,11 @@ from rbac_parts.parts import Fault
 MOST_LINES, LONGEST_LINE = 65536, 256
 
 
-def islands_of(names, edges):
-    """The island of each name, in order: all to which edges with t or g lead, either way round."""
+def islands_of(names, links):
+    """The island of each name, in order: all to which links lead, either way round."""
     islands = {name: [name] for name in names}
-    for x, y, rights in edges:
-        if ("t" in rights or "g" in rights) and islands[x] is not islands[y]:
+    for x, y in links:
+        if islands[x] is not islands[y]:
             smaller, larger = sorted((islands[x], islands[y]), key=len)
             larger += smaller
             islands.update(dict.fromkeys(smaller, larger))
@@ -53,9 +53,11 @@ def policy_of(remainder):
     secrets = {name for thing, name in names.items() if thing.kind == "secrets"}
     if not secrets:
         raise Fault("there is no secret, or all are left out: a policy would state nothing")
-    islands, holders = islands_of(names.values(), remainder.edges()), defaultdict(set)
-    for x, y, rights in remainder.edges():
-        for right in rights * (y in secrets):
+    edges = [(x, y, label) for x, pairs in remainder.edges() for y, label in pairs]
+    links = ((x, y) for x, y, label in edges if "t" in label or "g" in label)
+    islands, holders = islands_of(names.values(), links), defaultdict(set)
+    for x, y, label in edges:
+        for right in label * (y in secrets):
             holders[y, right].add(islands[x][0])
     policy = Policy()
     for thing, name in names.items():

@@ -1,7 +1,8 @@
-"""Which rights the rules of a cluster give: edges from who has them to what they are over."""
+"""Which rights the rules of a cluster give, and over what."""
 from collections import defaultdict
 from itertools import product
 
+from rbac_parts.graphs import Graph
 from rbac_parts.listing import ACCOUNT_KINDS, Rule, Thing
 
 READING, CHANGING = {"get", "list", "watch"}, {"create", "update", "patch"}
@@ -29,36 +30,34 @@ class Rights:
             members = self.cluster.members(account)
             yield from ((who, rule, scope) for who in members for rule in rules)
 
-    def edges(self):
-        """The rights that each thing has over others, as sets of letters."""
-        edges, holders = defaultdict(set), defaultdict(set)
+    def graph(self):
+        """The things of the cluster, and the rights that each has over others."""
+        holders = defaultdict(set)
         for account, rule, scope in self.permissions():
             holders[rule, scope].add(account)
             for kind in rule.resources - NO_NEW_THINGS:
                 if "*" not in kind:
                     self.things[kind].add(Thing(kind, scope, ""))
+        graph = Graph(set().union(*self.things.values()))
         for (rule, scope), accounts in holders.items():
-            for (right, thing), account in product(self.rights_of(rule, scope), accounts):
-                edges[account, thing].add(right)
-        entered = {y for (_, y), rights in edges.items() if "t" in rights and y.kind == "pods"}
-        for pods, thing in self.mounts():
-            if pods in entered:
-                edges[pods, thing].add("r")
-        for (holder, thing), rights in list(edges.items()):
-            if "r" in rights and thing in self.tokens:
-                edges[holder, self.tokens[thing]].add("t")
-        return edges
+            given = [(right, graph.mask_of(over)) for right, over in self.rights_of(rule, scope)]
+            for account, (right, mask) in product(accounts, given):
+                graph.give(account, right, mask)
+        self.add_mounts(graph)
+        self.add_tokens(graph)
+        return graph
 
     def rights_of(self, rule, scope):
-        """What a rule allows in its namespace: pairs of a right and what it is over."""
+        """What a rule allows in its namespace: pairs of a right and the things that it is over."""
         other = rule.verbs - READING - CHANGING - DELETING - HANDING_OVER - {"impersonate"}
         plain = {"r": READING, "w": CHANGING, "d": DELETING, "e": other}
-        for kind, right in product(self.things.keys() - {"users", "groups"}, plain):
-            if allows(rule, plain[right], kind):
-                yield from ((right, thing) for thing in self.matching(rule, scope, kind))
-        yield from (("t", account) for account in self.run_as(rule, scope))
+        for kind in self.things.keys() - {"users", "groups"}:
+            rights = [right for right in plain if allows(rule, plain[right], kind)]
+            matching = self.matching(rule, scope, kind) if rights else ()
+            yield from ((right, matching) for right in rights)
+        yield "t", self.run_as(rule, scope)
         if allows(rule, CHANGING | HANDING_OVER, *ROLE_KINDS):
-            yield from (("g", account) for account in self.cluster.accounts)
+            yield "g", self.cluster.accounts
 
     def run_as(self, rule, scope):
         """The accounts that a rule lets one run as, and the pods that one may start or enter."""
@@ -77,14 +76,25 @@ class Rights:
         return {thing for thing in self.things[kind] if scope in ("", thing.namespace)
                 and (not rule.names or not thing.name or thing.name in rule.names)}
 
-    def mounts(self):
-        """The pods of each namespace with what they may mount: its secrets and its configmaps."""
-        yield from ((self.of_kind("pods", secret.namespace), secret)
-                    for secret in self.things["secrets"])
-        places = {thing.namespace for kind in ("pods", "configmaps") for thing in self.things[kind]}
-        pairs = ((self.of_kind("pods", place), self.of_kind("configmaps", place))
-                 for place in places)
-        yield from (pair for pair in pairs if None not in pair)
+    def add_mounts(self, graph):
+        """Gives pods that somebody may enter r over the secrets and configmaps they may mount."""
+        pairs = [(self.of_kind("pods", thing.namespace), thing) for thing in self.things["secrets"]]
+        mounted = self.things["pods"] | self.things["configmaps"]
+        pairs += [(self.of_kind("pods", place), self.of_kind("configmaps", place))
+                  for place in {thing.namespace for thing in mounted}]
+        entered = set()
+        for row in graph.rows.values():
+            entered.update(graph.things_in(row["t"] & graph.mask_of(self.things["pods"])))
+        for pods, thing in pairs:
+            if pods in entered and thing:
+                graph.give(pods, "r", graph.bits[thing])
+
+    def add_tokens(self, graph):
+        """Gives who may read the secret of a token t over the account that it is for."""
+        secrets = graph.mask_of(self.tokens)
+        for holder, row in graph.rows.items():
+            for secret in graph.things_in(row["r"] & secrets):
+                graph.give(holder, "t", graph.bits[self.tokens[secret]])
 
     def of_kind(self, kind, place):
         """What stands for a kind in a namespace: its own vertex or that of all, None if neither."""

@@ -1,9 +1,9 @@
 """The graph text of what stays, and what is told where it would be too long."""
-from collections import defaultdict
+from collections import Counter, defaultdict
 from glob import escape
 from shlex import quote
 
-from rbac_parts.leaving import labels_in, places_in
+from rbac_parts.graphs import count_of, over_whom
 from rbac_parts.listing import full_name
 from rbac_parts.names import legend
 from rbac_parts.parts import Fault
@@ -11,64 +11,64 @@ from rbac_parts.parts import Fault
 MOST_VERTICES, MOST_BYTES, MOST_KINDS = 4096, 67_108_864, 8
 
 
-def text_of(lines, fault):
-    """Lines as one text. Where it has more bytes than a text may have, the fault is raised."""
+def text_of(blocks, fault):
+    """Blocks of lines as one text. Where it is longer than a text may be, the fault is raised."""
     parts, room = [], MOST_BYTES
-    for line in lines:
-        parts.append(line)
-        room -= len(line) + 1
+    for block in blocks:
+        parts += (line + "\n" for line in block)
+        room -= sum(len(line) + 1 for line in block)
         if room < 0:
             raise Fault(fault())
-    return "".join(line + "\n" for line in parts)
+    return "".join(parts)
 
 
 def graph_of(remainder):
-    """The lines of the graph text, with what each name stands for in a comment."""
+    """The graph text in blocks of lines, with what each name stands for in a comment."""
     names, kept = remainder.names, remainder.kept
-    yield "# Made by tools/from_rbac; docs/RBAC.md says which right stands for what."
-    for thing in kept:
-        yield from legend(thing, names[thing])
-    yield "version 2"
-    yield from ("vertex " + names[thing] for thing in kept)
+    yield ["# Made by tools/from_rbac; docs/RBAC.md says which right stands for what."]
+    yield from (legend(thing, names[thing]) for thing in kept)
+    yield ["version 2", *("vertex " + names[thing] for thing in kept)]
     yield from ways_through(remainder)
-    yield from (f"edge {x} {y} {label}" for x, y, label in remainder.edges())
+    for x, pairs in remainder.edges():
+        yield [f"edge {x} {y} {label}" for y, label in pairs]
 
 
 def ways_through(remainder):
     """Comments on the edges that came of leaving out: through whom, and who that is."""
-    names, kept = remainder.names, remainder.kept
-    named = {thing for ways in remainder.through for thing, _ in ways}
-    for thing in remainder.left_out:
-        if thing in named:
-            yield from legend(thing, names[thing])
-    for x, ways in zip(kept, remainder.through):
-        ends = sorted((place, names[thing]) for thing, mask in ways for place in places_in(mask))
-        yield from (f"# {names[x]} {names[kept[place]]} through {name}" for place, name in ends)
+    names = remainder.names
+    named = {hub for ways in remainder.through.values() for hub, _ in ways}
+    yield from (legend(hub, names[hub]) for hub in remainder.left_out if hub in named)
+    for thing in remainder.kept:
+        x = names[thing]
+        yield [f"# {x} {y} through {name}" for y, name in remainder.by_whom(thing)]
 
 
-def too_many(kept, edges):
+def too_many(things, graph):
     """What is told where more things stay than a text has room for."""
-    return f"{len(kept)} vertices, {MOST_VERTICES} at most; leave out:{advice_on(kept, edges)}"
+    return f"{len(things)} vertices, {MOST_VERTICES} at most; leave out:{advice_on(things, graph)}"
 
 
-def too_long(remainder, edges):
+def too_long(remainder):
     """What is told where the graph text had too many bytes."""
     told = f"{remainder.count()} edges, and more than {MOST_BYTES} bytes; leave out"
-    most = max(remainder.left_out, default=None, key=lambda thing: remainder.brings[thing][0])
-    count, mask = remainder.brings.get(most, (0, 0))
-    if not count:
-        return f"{told}:{advice_on(remainder.kept, edges)}"
-    ends = [remainder.kept[place] for place in places_in(mask)]
-    return (f"{told} some of what {full_name(most)!a} brings, which is left out and brings most, "
-            f"{count} edges:{advice_on(ends, edges)}")
+    counts, masks = Counter(), defaultdict(int)
+    for ways in remainder.through.values():
+        for hub, mask in ways:
+            counts[hub] += count_of(mask)
+            masks[hub] |= mask
+    if not counts:
+        return f"{told}:{advice_on(remainder.kept, remainder.graph)}"
+    (hub, count), = counts.most_common(1)
+    return (f"{told} of what {full_name(hub)!a} holds, which is left out and brings most, {count} "
+            f"edges:{advice_on(remainder.graph.things_in(masks[hub]), remainder.graph)}")
 
 
-def advice_on(things, edges):
+def advice_on(things, graph):
     """Lines with the patterns that leave out most of these things.
 
     Kinds that hold no rights stand first: no edge comes of leaving them out.
     """
-    by_kind, holding = defaultdict(list), {x.kind for x, _ in edges}
+    by_kind, holding = defaultdict(list), {x.kind for x, row in graph.rows.items() if over_whom(row)}
     for thing in things:
         by_kind[thing.kind].append(thing)
     kinds = sorted(by_kind, key=lambda kind: (kind in holding, -len(by_kind[kind]), kind))
