@@ -24,10 +24,10 @@ from concurrent.futures import ThreadPoolExecutor
 from functools import partial
 from random import SystemRandom
 
-from rbac_cases import leaving_out, naming, roles
+from rbac_cases import leaving_out, naming, refusals, roles, sizes
 from rbac_cases.runs import Failure
 
-KINDS = [leaving_out.cases, roles.cases, naming.cases]
+KINDS = [sizes.cases, leaving_out.cases, roles.cases, naming.cases, refusals.cases]
 
 
 def failure_of(program, case):

@@ -1,5 +1,6 @@
 """Names that stay the same, and --same, which compares them with the comments of a policy."""
 import tempfile
+from functools import lru_cache
 from pathlib import Path
 
 from rbac_cases.listings import account, may, secret, text_of, token
@@ -38,6 +39,12 @@ def names_of_the_left_out_are_not_given(_):
     expect({"ann": ANN, "robot_1": "secrets n/robot"}, {v: k for k, v in graph.names.items()}, "names")
 
 
+@lru_cache
+def plain_text(listing, *words):
+    """The text that the tool writes where nothing is compared."""
+    return text_for(listing, *words)
+
+
 class Policy:
     """A policy in a file, and what --same says of it."""
 
@@ -53,7 +60,7 @@ class Policy:
 
     def is_same(self, listing, *words):
         """Fails unless the tool writes the graph as it does without --same."""
-        wanted = text_for(listing, *words)
+        wanted = plain_text(listing, *words)
         expect(wanted, self.with_file(lambda *same: text_for(listing, *words, *same)), "the graph")
 
     def differs(self, listing, names, *words):
