@@ -9,9 +9,9 @@ that the tool writes. The cases:
 - names, which --without leaves as they are, and --same, which compares them with a policy's;
 - what the tool refuses, with which words, and what it tells besides;
 - texts as long as they may be and longer, and how long a large one takes;
-- random listings. What each account comes to alone in the whole graph, by a search of this program,
-  PROGRAM has to find in the graph that leaves others out; and where these graphs are small, all
-  that comes about by rules, and for t, r, w, e and d nothing else.
+- random listings. What each of those who stay comes to alone in the whole graph, by a search of
+  these checks, PROGRAM has to find in the graph that leaves others out; and so all that comes about
+  by rules that those who stay carry out, and for t, r, w, e and d nothing else.
 
 The seed of the random listings is printed. --only runs the cases whose titles have the text. The
 last line is `N passed, M failed`; the status is 1 where a case failed.
@@ -24,7 +24,7 @@ from concurrent.futures import ThreadPoolExecutor
 from functools import partial
 from random import SystemRandom
 
-from rbac_cases import leaving_out, naming, refusals, roles, sizes
+from rbac_cases import leaving_out, naming, refusals, roles, searching, sizes
 from rbac_cases.runs import Failure
 
 KINDS = [sizes.cases, leaving_out.cases, roles.cases, naming.cases, refusals.cases]
@@ -52,7 +52,13 @@ def main():
     options.add_argument("--list", action="store_true")
     given = options.parse_args()
     begun = time.monotonic()
-    cases = [case for kind in KINDS for case in kind() if given.only in case[0]]
+    print(f"seed {given.seed}, {given.listings} random listings", flush=True)
+    cases = [case for kind in KINDS for case in kind()]
+    cases += searching.cases(given.seed, given.listings)
+    cases = [case for case in cases if given.only in case[0]]
+    if given.list:
+        print("\n".join(title for title, _ in cases))
+        return
     with ThreadPoolExecutor(os.cpu_count()) as pool:
         failures = [it for it in pool.map(partial(failure_of, given.program), cases) if it]
     print("\n".join(failures))
