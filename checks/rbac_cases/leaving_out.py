@@ -189,6 +189,16 @@ def grant_questions():
         held={(ANN, BOB): "g", (BOB, ANN): "", (BOB, BOB): ""},
         through={},
     )
+    zed = "users zed"
+    items = [secret("n/key"), *runs_as(ANN, zed), *runs_as(BOB, DOT), *may(zed, *MAKES_ROLES)]
+    yield Question(
+        "a grant from one left out to another goes through the first of both by name",
+        [*items, *named(DOT, CID), *reads(ANN, "key")],
+        {("r", BOB, KEY): "yes"},
+        (DOT, zed),
+        held={(ANN, BOB): "g", (ANN, CID): "g", (BOB, ANN): ""},
+        through={(ANN, BOB): DOT, (ANN, ANN): zed, (ANN, CID): zed, (ANN, "rolebindings *"): zed},
+    )
     # The smallest of all graphs that leaving out one after another gets wrong.
     items = [secret("n/key"), *runs_as(ANN, EVE), *runs_as(BOB, EVE), *runs_as(EVE, DOT)]
     items += [*may(EVE, *MAKES_ROLES), *reads(ANN, "key"), *named(DOT)]
@@ -234,7 +244,7 @@ def remainder_is_told(_):
     """How many were left out, and how many edges came of it, is told on standard error."""
     listing = text_of(TWICE)
     ran = run_tool(listing, *leaving([DOT, EVE, FAY]))
-    expect((0, "from_rbac: 3 left out, and 1 edges came of it\n"), (ran.status, ran.told), "told")
+    expect((0, "from_rbac: left out: 3; edges that came of it: 1\n"), (ran.status, ran.told), "told")
     ran = run_tool(listing)
     expect((0, ""), (ran.status, ran.told), "told where nothing is left out")
 

@@ -141,7 +141,7 @@ def names_of_the_left_out_differ(_):
     text = KEPT + comment("robot", "serviceaccounts ci/robot") + "never w robot key\n"
     Policy(text).is_same(listing)
     told = Policy(text).differs(listing, ["robot"], *words)
-    has_parts(told, "which is left out")
+    has_parts(told, "it stands for serviceaccounts ci/robot, which is left out\n")
 
 
 def long_comments_are_compared_whole(_):

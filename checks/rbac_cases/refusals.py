@@ -42,7 +42,7 @@ def patterns_that_match_nothing(_):
 def patterns_of_what_only_others_match(_):
     """A pattern whose vertices other patterns leave out as well does match."""
     ran = run_tool(text_of(READERS), *leaving(["users ann", "users *", "* *"]))
-    expect((0, "from_rbac: 2 left out, and 0 edges came of it\n"), (ran.status, ran.told), "told")
+    expect((0, "from_rbac: left out: 2; edges that came of it: 0\n"), (ran.status, ran.told), "told")
 
 
 def policies_without_secrets(_):

@@ -48,7 +48,7 @@ def too_long(_):
     items += [secret(f"n/secret-with-a-name-{number:04}") for number in range(1000)]
     # Each user may run as each and as the hub, which holds the secrets and the nodes.
     lines = [
-        f"from_rbac: 1 left out, and {takers * 1001} edges came of it",
+        f"from_rbac: left out: 1; edges that came of it: {takers * 1001}",
         f"from_rbac: {takers * takers + takers * 1001} edges, and more than 67108864 bytes; leave out "
         f"of what '{hub}' holds, which is left out and brings most, {takers * 1001} edges:",
         "  --without 'secrets n/*'    (1000)",

@@ -30,13 +30,13 @@ def comments_in(lines):
     return comments
 
 
-def difference(name, comments, remainder, things):
-    """What is wrong with the comments on a name, or None. `things` are those that names mean."""
-    if name not in things:
+def difference(name, comments, remainder):
+    """What is wrong with the comments on a name, or None."""
+    if name not in remainder.names:
         return "it is no vertex of the graph"
-    thing = things[name]
-    wanted = legend(thing, name)
-    is_left_out = thing not in remainder.through
+    place = remainder.names.index(name)
+    wanted = legend(remainder.graph.things[place], name)
+    is_left_out = place in remainder.left_out
     if not is_left_out and comments and comments == wanted * (len(comments) // len(wanted)):
         return None
     said = "".join(line[WORDS_AT:] for line in comments)
@@ -48,10 +48,9 @@ def difference(name, comments, remainder, things):
 def check_same(policy, path, remainder):
     """Raises a fault unless a policy has, on all that it names, the comments of the graph."""
     lines = [line.rstrip("\r") for line in policy.decode("latin-1").split("\n")]
-    things = {name: thing for thing, name in remainder.names.items()}
     comments = comments_in(lines)
-    told = {name: difference(name, comments[name], remainder, things) for name in named_in(lines)}
+    told = {name: difference(name, comments[name], remainder) for name in named_in(lines)}
     wrong = [f"\n  {name!a:.40}: {told[name]}" for name in told if told[name]]
     if wrong:
-        raise Fault(f"{path}: of its names, {len(wrong)} may stand for something else than where "
-                    f"it was written:{''.join(wrong)}")
+        raise Fault(f"{path}: names that do not stand for what its comments say: {len(wrong)}"
+                    f"{''.join(wrong)}")

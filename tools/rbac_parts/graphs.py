@@ -15,12 +15,12 @@ class Graph:
 
     def __init__(self, things):
         self.things = sorted(things)
-        self.bits = {thing: 1 << place for place, thing in enumerate(self.things)}
+        self.places = {thing: place for place, thing in enumerate(self.things)}
         self.rows = {thing: defaultdict(int) for thing in self.things}
 
     def mask_of(self, things):
         """The mask of things, none twice."""
-        return sum(self.bits[thing] for thing in things)
+        return sum(1 << self.places[thing] for thing in things)
 
     def things_in(self, mask):
         """The things of a mask."""

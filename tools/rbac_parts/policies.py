@@ -49,7 +49,7 @@ class Policy:
 
 def policy_of(remainder):
     """The lines of a policy that holds: of each secret who can come to which right over it."""
-    names = {thing: remainder.names[thing] for thing in remainder.kept}
+    names = {remainder.graph.things[place]: remainder.names[place] for place in remainder.kept}
     secrets = {name for thing, name in names.items() if thing.kind == "secrets"}
     if not secrets:
         raise Fault("there is no secret, or all are left out: a policy would state nothing")

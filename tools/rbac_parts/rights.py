@@ -87,14 +87,14 @@ class Rights:
             entered.update(graph.things_in(row["t"] & graph.mask_of(self.things["pods"])))
         for pods, thing in pairs:
             if pods in entered and thing:
-                graph.give(pods, "r", graph.bits[thing])
+                graph.give(pods, "r", graph.mask_of([thing]))
 
     def add_tokens(self, graph):
         """Gives who may read the secret of a token t over the account that it is for."""
         secrets = graph.mask_of(self.tokens)
         for holder, row in graph.rows.items():
             for secret in graph.things_in(row["r"] & secrets):
-                graph.give(holder, "t", graph.bits[self.tokens[secret]])
+                graph.give(holder, "t", graph.mask_of([self.tokens[secret]]))
 
     def of_kind(self, kind, place):
         """What stands for a kind in a namespace: its own vertex or that of all, None if neither."""

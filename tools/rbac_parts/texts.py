@@ -24,10 +24,10 @@ def text_of(blocks, fault):
 
 def graph_of(remainder):
     """The graph text in blocks of lines, with what each name stands for in a comment."""
-    names, kept = remainder.names, remainder.kept
+    things, names, kept = remainder.graph.things, remainder.names, remainder.kept
     yield ["# Made by tools/from_rbac; docs/RBAC.md says which right stands for what."]
-    yield from (legend(thing, names[thing]) for thing in kept)
-    yield ["version 2", *("vertex " + names[thing] for thing in kept)]
+    yield from (legend(things[place], names[place]) for place in kept)
+    yield ["version 2", *("vertex " + names[place] for place in kept)]
     yield from ways_through(remainder)
     for x, pairs in remainder.edges():
         yield [f"edge {x} {y} {label}" for y, label in pairs]
@@ -35,12 +35,12 @@ def graph_of(remainder):
 
 def ways_through(remainder):
     """Comments on the edges that came of leaving out: through whom, and who that is."""
-    names = remainder.names
-    named = {hub for ways in remainder.through.values() for hub, _ in ways}
-    yield from (legend(hub, names[hub]) for hub in remainder.left_out if hub in named)
-    for thing in remainder.kept:
-        x = names[thing]
-        yield [f"# {x} {y} through {name}" for y, name in remainder.by_whom(thing)]
+    things, names = remainder.graph.things, remainder.names
+    named = {hub for ways in remainder.through for hub, _ in ways}
+    yield from (legend(things[hub], names[hub]) for hub in remainder.left_out if hub in named)
+    for place in remainder.kept:
+        x = names[place]
+        yield [f"# {x} {y} through {name}" for y, name in remainder.by_whom(place)]
 
 
 def too_many(things, graph):
@@ -51,16 +51,16 @@ def too_many(things, graph):
 def too_long(remainder):
     """What is told where the graph text had too many bytes."""
     told = f"{remainder.count()} edges, and more than {MOST_BYTES} bytes; leave out"
-    counts, masks = Counter(), defaultdict(int)
-    for ways in remainder.through.values():
+    graph, counts, masks = remainder.graph, Counter(), defaultdict(int)
+    for ways in remainder.through:
         for hub, mask in ways:
             counts[hub] += count_of(mask)
             masks[hub] |= mask
     if not counts:
-        return f"{told}:{advice_on(remainder.kept, remainder.graph)}"
+        return f"{told}:{advice_on([graph.things[place] for place in remainder.kept], graph)}"
     (hub, count), = counts.most_common(1)
-    return (f"{told} of what {full_name(hub)!a} holds, which is left out and brings most, {count} "
-            f"edges:{advice_on(remainder.graph.things_in(masks[hub]), remainder.graph)}")
+    return (f"{told} of what {full_name(graph.things[hub])!a} holds, which is left out and brings "
+            f"most, {count} edges:{advice_on(graph.things_in(masks[hub]), graph)}")
 
 
 def advice_on(things, graph):
