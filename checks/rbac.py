@@ -37,6 +37,8 @@ def failure_of(program, case):
         play(program)
     except Failure as failure:
         return f"FAILED {title}\n  {failure}"
+    except Exception as fault:  # (the other cases are played all the same)
+        return f"FAILED {title}\n  {type(fault).__name__}: {fault}"
     return None
 
 
@@ -61,7 +63,8 @@ def main():
         return
     with ThreadPoolExecutor(os.cpu_count()) as pool:
         failures = [it for it in pool.map(partial(failure_of, given.program), cases) if it]
-    print("\n".join(failures))
+    for failure in failures:
+        print(failure)
     print(f"{time.monotonic() - begun:.0f} seconds")
     print(f"{len(cases) - len(failures)} passed, {len(failures)} failed")
     sys.exit(1 if failures else 0)

@@ -36,7 +36,7 @@ def names_of_the_left_out_are_not_given(_):
     """The secret of a token keeps its number where the account of its name is left out."""
     items = [account("n/robot"), token("n/robot", "robot"), *may(ANN, "get", "secrets", "robot")]
     graph = GraphText(text_for(text_of(items), *leaving(["serviceaccounts n/robot"])))
-    expect({"ann": ANN, "robot_1": "secrets n/robot"}, {v: k for k, v in graph.names.items()}, "names")
+    expect({ANN: "ann", "secrets n/robot": "robot_1"}, graph.names, "names")
 
 
 @lru_cache
@@ -149,7 +149,8 @@ def long_comments_are_compared_whole(_):
     items = [secret("shop/key"), *may(LONG, "get", "secrets"), *may(LONG + "x", "get", "secrets")]
     listing = text_of(items)
     names = GraphText(text_for(listing)).names
-    lines = [line for line in text_for(listing).decode().splitlines(True) if line.startswith("# a_b")]
+    lines = text_for(listing).decode().splitlines(True)
+    lines = [line for line in lines if line.startswith("# a_b")]
     expect(4, len(lines), "lines of comments")
     own = [line for line in lines if line.startswith(f"# {names[LONG]} ")]
     text = KEY_COMMENT + "".join(own) + f"only r key {names[LONG]}\n"
@@ -227,9 +228,10 @@ def links_to_the_tool(_):
         first, second = Path(folder, "first"), Path(folder, "second")
         first.symlink_to(TOOL)
         second.symlink_to("first")
+        wanted = 0, plain_text(text_of(TWINS))
         for command in (["./second"], ["python3", "./second"], ["python3", "-I", "./first"]):
             ran = run_tool(text_of(TWINS), command=command, folder=folder)
-            expect((0, text_for(text_of(TWINS))), (ran.status, ran.output), f"{command}, {ran.told}")
+            expect(wanted, (ran.status, ran.output), f"status and output of {command}")
 
 
 def cases():

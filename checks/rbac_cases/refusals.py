@@ -4,6 +4,7 @@ from rbac_cases.runs import expect, has_parts, leaving, refusal_of, run_tool
 
 ANN, BOB = "users ann", "users bob"
 READERS = [secret("n/key"), *may(ANN, "get", "secrets")]
+HOMELESS = {"kind": "ServiceAccount", "metadata": {"name": "x"}}
 # Listings that are refused, and the words of the fault.
 BAD_LISTINGS = {
     b"": "Expecting value",
@@ -16,7 +17,7 @@ BAD_LISTINGS = {
     b'{"items": []}': "the listing has no object",
     b'{"items": [null]}': "items[0] is missing",
     b'{"items": [{"kind": "Pod", "metadata": {"name": "x"}}]}': "item 1 (Pod 'x'): kind has to be",
-    text_of([*READERS, account("n/x") | {"metadata": {"name": "x"}}]): "item 4 (ServiceAccount 'x'): ",
+    text_of([*READERS, HOMELESS]): "item 4 (ServiceAccount 'x'): namespace is missing",
 }
 
 
@@ -42,7 +43,8 @@ def patterns_that_match_nothing(_):
 def patterns_of_what_only_others_match(_):
     """A pattern whose vertices other patterns leave out as well does match."""
     ran = run_tool(text_of(READERS), *leaving(["users ann", "users *", "* *"]))
-    expect((0, "from_rbac: left out: 2; edges that came of it: 0\n"), (ran.status, ran.told), "told")
+    told = "from_rbac: left out: 2; edges that came of it: 0\n"
+    expect((0, told), (ran.status, ran.told), "told")
 
 
 def policies_without_secrets(_):
@@ -65,8 +67,8 @@ def bindings_to_missing_roles(_):
         ran = run_tool(text_of(items + bound))
         expect((0, True), (ran.status, b"\nedge ann key r\n" in ran.output), "status and graph")
         lines = ran.told.splitlines()
-        expect(f"from_rbac: bindings to roles that the listing lacks: {missing}, which give nothing "
-               f"here", lines[0], "told")
+        told = f"from_rbac: bindings to roles that the listing lacks: {missing}, which give nothing"
+        expect(told + " here", lines[0], "told")
         wanted = [binding_line(item) for item in [items[-1], *bound][:3]]
         expect(wanted + ["  .."] * (missing > 3), lines[1:], "the first three")
 
@@ -86,7 +88,7 @@ def roles_that_are_elsewhere(_):
     of_cluster = reads[1] | {"kind": "ClusterRoleBinding", "metadata": {"name": "x"}}
     for bound in (elsewhere, of_cluster, binding(reads[0]["metadata"]["name"], ANN)):
         ran = run_tool(text_of([secret("n/key"), reads[0], bound]))
-        expect((0, False), (ran.status, b"edge" in ran.output), "status, and whether there are edges")
+        expect((0, False), (ran.status, b"edge" in ran.output), "status, and edges")
         has_parts(ran.told, "bindings to roles that the listing lacks: 1, ")
 
 

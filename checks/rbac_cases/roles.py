@@ -5,7 +5,7 @@ from rbac_cases.runs import expect, has_parts, refusal_of, run_tool
 
 ANN, BOB, CID = "users ann", "users bob", "users cid"
 KEY, SEAL = "secrets n/key", "secrets n/seal"
-PODS = "pods n/*"
+PODS, SHARED, OWN = "pods n/*", "configmaps *", "configmaps n/*"
 READS_KEY, READS_SEAL = rule("get", "secrets", "key"), rule("get", "secrets", "seal")
 AGGREGATE = "rbac.authorization.k8s.io/aggregate-to-"
 VIEWED = "configmaps pods pods/log services deployments"
@@ -78,7 +78,8 @@ def aggregation_questions():
     """Roles that have the rules of others."""
     both = [secret("n/key"), secret("n/seal")]
     reads = cluster_role("reads", READS_KEY, labels={"to": "edit"})
-    edit = cluster_role("edit", READS_SEAL, selectors=[with_labels(to="edit")], labels={"to": "all"})
+    chooses = {"selectors": [with_labels(to="edit")]}
+    edit = cluster_role("edit", READS_SEAL, labels={"to": "all"}, **chooses)
     admin = cluster_role("admin", selectors=[with_labels(to="all")])
     answers = {("r", ANN, KEY): "yes", ("r", ANN, SEAL): "yes", ("r", BOB, SEAL): "no"}
     yield Question(
@@ -92,14 +93,6 @@ def aggregation_questions():
         [*both, secret("m/key"), admin, edit, reads, binding("admin", ANN, place="n")],
         {("r", ANN, KEY): "yes", ("r", ANN, "secrets m/key"): "no"},
         edges={(ANN, KEY): "r", (ANN, SEAL): "r"},
-    )
-    first = cluster_role("first", READS_KEY, selectors=[with_labels(is_="2")], labels={"is_": "1"})
-    second = cluster_role("second", READS_SEAL, selectors=[with_labels(is_="1")], labels={"is_": "2"})
-    yield Question(
-        "roles that choose one another in a circle, and themselves",
-        [*both, first, second, cluster_role("third", selectors=[{}], labels={"is_": "2"}),
-         *(binding(*pair) for pair in (("first", ANN), ("second", BOB), ("third", CID)))],
-        edges={(x, y): "r" for x in (ANN, BOB, CID) for y in (KEY, SEAL)},
     )
     either = [with_labels(to="none"), with_labels(to="edit")]
     yield Question(
@@ -117,6 +110,24 @@ def aggregation_questions():
             [*both, cluster_role("whole", READS_SEAL, **fields), reads, binding("whole", ANN)],
             edges={(ANN, SEAL): "r"},
         )
+
+
+def circle_questions():
+    """Roles that choose one another."""
+    to_first, to_second = [with_labels(to="first")], [with_labels(to="second")]
+    items = [
+        secret("n/key"),
+        secret("n/seal"),
+        cluster_role("first", READS_KEY, selectors=to_second, labels={"to": "first"}),
+        cluster_role("second", READS_SEAL, selectors=to_first, labels={"to": "second"}),
+        cluster_role("third", selectors=[{}], labels={"to": "second"}),
+    ]
+    items += [binding("first", ANN), binding("second", BOB), binding("third", CID)]
+    yield Question(
+        "roles that choose one another in a circle, and themselves",
+        items,
+        edges={(x, y): "r" for x in (ANN, BOB, CID) for y in (KEY, SEAL)},
+    )
 
 
 def kubernetes_roles():
@@ -137,14 +148,14 @@ def kubernetes_roles():
         cluster_role(
             "system:aggregate-to-admin",
             rule("create", "localsubjectaccessreviews"),
-            rule("create delete deletecollection get list patch update watch", "roles rolebindings"),
+            rule("create delete get list patch update watch", "roles rolebindings"),
             labels={AGGREGATE + "admin": "true"},
         ),
         cluster_role(
             "system:aggregate-to-edit",
             rule("get list watch", "pods/attach pods/exec secrets services/proxy"),
             rule("impersonate", "serviceaccounts"),
-            rule("create delete deletecollection patch update", "secrets serviceaccounts " + DEPLOYED),
+            rule("create delete patch update", "secrets serviceaccounts " + DEPLOYED),
             rule("create", "serviceaccounts/token"),
             labels={AGGREGATE + "edit": "true"},
         ),
@@ -181,44 +192,48 @@ def kubernetes_questions():
 def mount_questions():
     """Pods, and the configmaps of their namespace or of all."""
     pods = [account("n/default"), account("m/default"), *may(ANN, "create", "pods")]
-    shared, own = "configmaps *", "configmaps n/*"
     everywhere = may(BOB, "update", "configmaps")
     yield Question(
         "a namespace without configmaps of its own",
         [*pods, *everywhere],
-        {("r", ANN, shared): "yes"},
-        held={(PODS, shared): "r", ("pods m/*", shared): "r", (ANN, shared): ""},
+        {("r", ANN, SHARED): "yes"},
+        held={(PODS, SHARED): "r", ("pods m/*", SHARED): "r", (ANN, SHARED): ""},
     )
     yield Question(
         "one namespace with configmaps of its own, and one without",
         [*pods, *everywhere, *may(CID, "get", "configmaps", place="n")],
-        {("r", ANN, shared): "yes", ("r", ANN, own): "yes"},
+        {("r", ANN, SHARED): "yes", ("r", ANN, OWN): "yes"},
         held={
-            (PODS, own): "r",
-            (PODS, shared): "",
-            ("pods m/*", shared): "r",
-            (BOB, own): "w",
-            (CID, shared): "",
+            (PODS, OWN): "r",
+            (PODS, SHARED): "",
+            ("pods m/*", SHARED): "r",
+            (BOB, OWN): "w",
+            (CID, SHARED): "",
         },
     )
+
+
+def enter_questions():
+    """Who may enter which pods, and what these mount."""
+    everywhere = may(BOB, "update", "configmaps")
     yield Question(
         "pods of a namespace of which no account is known, and its configmaps",
         [*may(ANN, "create", "deployments"), *may(BOB, "update", "configmaps", place="n")],
-        {("r", ANN, own): "yes"},
-        held={(PODS, own): "r"},
+        {("r", ANN, OWN): "yes"},
+        held={(PODS, OWN): "r"},
     )
     yield Question(
         "pods of one namespace, and rules for the configmaps of all",
         [account("n/default"), *may(ANN, "create", "pods/exec", place="n"), *everywhere],
-        {("r", ANN, shared): "yes"},
+        {("r", ANN, SHARED): "yes"},
         ("serviceaccounts *",),
-        held={(PODS, shared): "r"},
+        held={(PODS, SHARED): "r"},
     )
     yield Question(
         "pods that nobody may enter",
         [account("n/default"), *may(ANN, "get", "pods"), *everywhere],
-        {("r", ANN, shared): "no"},
-        held={(ANN, PODS): "r", (PODS, shared): ""},
+        {("r", ANN, SHARED): "no"},
+        held={(ANN, PODS): "r", (PODS, SHARED): ""},
     )
 
 
@@ -238,10 +253,19 @@ def roles_of_a_namespace_choose_nothing(_):
     expect(0, run_tool(text_of(items)).status, "status")
 
 
+ROLE_QUESTIONS = (
+    selector_questions,
+    aggregation_questions,
+    circle_questions,
+    kubernetes_questions,
+)
+
+
 def cases():
     """Titles, and what plays them."""
-    for questions in (selector_questions, aggregation_questions, kubernetes_questions):
+    for questions in ROLE_QUESTIONS:
         yield from ((f"roles: {question.title}", question.play) for question in questions())
-    yield from ((f"pods: {question.title}", question.play) for question in mount_questions())
+    for questions in (mount_questions, enter_questions):
+        yield from ((f"pods: {question.title}", question.play) for question in questions())
     for check in (bad_selectors_are_refused, roles_of_a_namespace_choose_nothing):
         yield f"roles: {check.__name__.replace('_', ' ')}", check

@@ -81,8 +81,8 @@ class GraphText:
 
     def __init__(self, text):
         lines = text.decode("ascii").splitlines()
-        first = next((at for at, line in enumerate(lines) if line.startswith("vertex ")), len(lines))
         named = [line.split()[1] for line in lines if line.startswith("vertex ")]
+        first = lines.index(f"vertex {named[0]}") if named else len(lines)
         ends, behind = first + len(named), [line for line in lines if line.startswith("edge ")]
         self.comments = lines[ends : len(lines) - len(behind)]
         legends = legends_of(lines[1 : first - 1])

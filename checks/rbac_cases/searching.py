@@ -84,7 +84,7 @@ class Listings:
         places = PLACES[: 1 + (size > 4) + (size > 8)]
         items = [cluster_role("none")]
         for place in places:
-            items += [account(f"{place}/{name}") for name in self.some(0.5, NAMED["serviceaccounts"])]
+            items += [account(f"{place}/{name}") for name in self.some(0.5, ("robot", "clerk"))]
             items += [secret(f"{place}/{name}") for name in self.some(0.6, ("key", "seal"))]
             items += [token(f"{place}/pass", name) for name in self.some(0.3, ("robot",))]
         for _ in range(size):
@@ -111,7 +111,8 @@ def alone(edges, x):
         new = {y for (holder, y), letters in edges.items() if holder == taker and "t" in letters}
         todo += new - met
         met |= new
-    return {(right, y) for (holder, y), letters in edges.items() if holder in met for right in letters}
+    held = [(y, letters) for (holder, y), letters in edges.items() if holder in met]
+    return {(right, y) for y, letters in held for right in letters}
 
 
 def saturated(edges, acting):
@@ -154,8 +155,8 @@ def check_ways(whole, graph):
     new = {pair for pair, letters in graph.edges.items()
            if not set(letters) <= set(whole.edges.get(pair, ""))}
     expect(new, set(graph.through), "edges that came of leaving out")
-    strange = set(graph.through.values()) & set(graph.vertices)
-    expect(set(), strange | set(graph.through.values()) - set(whole.vertices), "whom they go through")
+    left_out = set(whole.vertices) - set(graph.vertices)
+    expect(set(), set(graph.through.values()) - left_out, "ways through what is not left out")
 
 
 def check_alone(whole, graph, found):

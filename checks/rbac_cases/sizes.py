@@ -13,7 +13,8 @@ COMMENT_BYTES, COMMENT_WORDS = 20, 200
 
 def text_with(words):
     """A listing of one user whose name is so long that its comment has so many bytes of words."""
-    return text_of([cluster_role("none"), binding("none", "users " + "a" * (words - len("users ")))])
+    user = "users " + "a" * (words - len("users "))
+    return text_of([cluster_role("none"), binding("none", user)])
 
 
 def bytes_of(words):
@@ -49,8 +50,8 @@ def too_long(_):
     # Each user may run as each and as the hub, which holds the secrets and the nodes.
     lines = [
         f"from_rbac: left out: 1; edges that came of it: {takers * 1001}",
-        f"from_rbac: {takers * takers + takers * 1001} edges, and more than 67108864 bytes; leave out "
-        f"of what '{hub}' holds, which is left out and brings most, {takers * 1001} edges:",
+        f"from_rbac: {takers * takers + takers * 1001} edges, and more than 67108864 bytes; leave "
+        f"out of what '{hub}' holds, which is left out and brings most, {takers * 1001} edges:",
         "  --without 'secrets n/*'    (1000)",
         "  --without 'nodes *'    (1)",
     ]
@@ -64,7 +65,8 @@ def too_many(_):
     """Where there are too many vertices, kinds that hold nothing are named first."""
     items = [secret(f"n/s{number}") for number in range(1000)]
     items += [account(f"n/a{number}") for number in range(MOST_VERTICES - 1000 - 2)]
-    items += [*may("users ann", "create", "pods/exec", place="n"), *may("users ann", "get", "nodes")]
+    items += may("users ann", "create", "pods/exec", place="n")
+    items += may("users ann", "get", "nodes")
     told = refusal_of(text_of(items))
     lines = [
         "from_rbac: 4097 vertices, 4096 at most; leave out:",
@@ -85,11 +87,10 @@ def timed(listing, *words):
     with tempfile.TemporaryFile() as given, tempfile.TemporaryFile() as written:
         given.write(listing)
         given.seek(0)
-        process = subprocess.Popen([TOOL, *words], stdin=given, stdout=written, stderr=subprocess.PIPE)
-        process.stderr.read()
-        _, status, usage = os.wait4(process.pid, 0)
-        process.returncode = os.waitstatus_to_exitcode(status)
-        process.stderr.close()
+        streams = {"stdin": given, "stdout": written, "stderr": subprocess.DEVNULL}
+        with subprocess.Popen([TOOL, *words], **streams) as process:
+            _, status, usage = os.wait4(process.pid, 0)
+            process.returncode = os.waitstatus_to_exitcode(status)
         written.seek(0)
         return process.returncode, written.read(), usage.ru_utime + usage.ru_stime
 

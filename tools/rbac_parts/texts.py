@@ -68,7 +68,8 @@ def advice_on(things, graph):
 
     Kinds that hold no rights stand first: no edge comes of leaving them out.
     """
-    by_kind, holding = defaultdict(list), {x.kind for x, row in graph.rows.items() if over_whom(row)}
+    by_kind = defaultdict(list)
+    holding = {thing.kind for thing, row in graph.rows.items() if over_whom(row)}
     for thing in things:
         by_kind[thing.kind].append(thing)
     kinds = sorted(by_kind, key=lambda kind: (kind in holding, -len(by_kind[kind]), kind))
