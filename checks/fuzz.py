@@ -1,10 +1,10 @@
 #!/usr/bin/env python3
 """Runs a program on random texts and words, and compares its answers with a small model's.
 
-fuzz.py PROGRAM [--seconds 60] [--seed N] [--case N] [--jobs N]. Each case makes a graph, its text
-of the one version or the other, and rules, a script, a policy or words for it. Often it spoils
-them: bytes are flipped, lines dropped, doubled or swapped, words replaced, numbers put at their
-limits, versions named where none may be. The kinds of cases:
+fuzz.py PROGRAM [--seconds 60 | --cases N | --case N] [--seed N] [--jobs N]. Each case makes a graph,
+its text of the one version or the other, and rules, a script, a policy or words for it. Often it
+spoils them: bytes are flipped, lines dropped, doubled or swapped, words replaced, numbers put at
+their limits, versions named where none may be. The kinds of cases:
 
 - `check`, `case`, `apply`, `islands`, `share`, `derive`, `table`, `who`, `reach`, `verify`, `cut`,
   `run`: report and status are the model's, which reads docs/TEXTS.md alone; so the first fault, its
@@ -19,8 +19,10 @@ limits, versions named where none may be. The kinds of cases:
 - `limits`: texts with as many vertices, rules, events, commits or lines of a policy as there may
   be, or one more; rules and sessions that create more vertices than there may be.
 
-The seed is printed first. A case is known by the seed and its number: --seed and --case repeat it
-alone. What a failed case was run on is kept in a folder that is named. The status is 1 then.
+It goes on for so many seconds, or with --cases for so many cases, those of the numbers from 0 on,
+however long they take. The seed is printed first. A case is known by the seed and its number:
+--seed and --case repeat it alone. What a failed case was run on is kept in a folder that is named.
+The status is 1 then, and where no case was played.
 """
 import argparse
 import os
@@ -30,6 +32,7 @@ import tempfile
 import time
 from collections import Counter
 from concurrent.futures import ProcessPoolExecutor
+from math import inf
 from random import Random, SystemRandom
 
 from fuzz_cases.comparing import KINDS, LONGEST_RUN, Failure, Program
@@ -74,10 +77,10 @@ def play(path, seed, numbers, seconds):
     return counts, failures
 
 
-def play_all(path, seed, seconds, jobs):
-    """Plays cases side by side: counts by kind, and the failures."""
+def play_all(path, seed, count, seconds, jobs):
+    """Plays at most so many cases side by side: counts by kind, and the failures."""
     with ProcessPoolExecutor(jobs) as pool:
-        shares = [range(first, sys.maxsize, jobs) for first in range(jobs)]
+        shares = [range(first, count, jobs) for first in range(jobs)]
         lanes = [pool.submit(play, path, seed, share, seconds) for share in shares]
         results = [lane.result() for lane in lanes]
     counts = sum((counts for counts, _ in results), Counter())
@@ -90,23 +93,28 @@ def main():
         description=__doc__, formatter_class=argparse.RawDescriptionHelpFormatter
     )
     options.add_argument("program")
-    options.add_argument("--seconds", type=float, default=60)
+    ends = options.add_mutually_exclusive_group()
+    ends.add_argument("--seconds", type=float, help="goes on for that long; 60 where nothing is said")
+    ends.add_argument("--cases", type=int, help="plays so many cases")
+    ends.add_argument("--case", type=int, help="plays that case alone")
     options.add_argument("--seed", type=int, help="repeats the cases of that seed")
-    options.add_argument("--case", type=int, help="plays that case alone")
     options.add_argument("--jobs", type=int, default=os.cpu_count())
     given = options.parse_args()
     seed = SystemRandom().randrange(10**9) if given.seed is None else given.seed
     print(f"seed {seed}", flush=True)
     path = os.path.abspath(given.program)
     if given.case is not None:
-        counts, failures = play(path, seed, [given.case], 0)
+        counts, failures = play(path, seed, [given.case], inf)
+    elif given.cases is not None:
+        counts, failures = play_all(path, seed, given.cases, inf, given.jobs)
     else:
-        counts, failures = play_all(path, seed, given.seconds, given.jobs)
+        seconds = 60 if given.seconds is None else given.seconds
+        counts, failures = play_all(path, seed, sys.maxsize, seconds, given.jobs)
     for failure in failures:
         print(failure)
     print(", ".join(f"{kind} {counts[kind]}" for kind in KINDS if counts[kind]))
     print(f"{sum(counts.values())} cases, {len(failures)} failures")
-    sys.exit(1 if failures else 0)
+    sys.exit(1 if failures or not counts else 0)
 
 
 if __name__ == "__main__":
