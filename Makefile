@@ -1,21 +1,29 @@
 # make demo       proves and builds the program, and shows it on the file service of examples/
-# make examples   compares what each example prints with what is stored beside it
-# make pictures   draws the examples; wants Graphviz
+# make build      proves and builds it alone: about half an hour on four slow processors from nothing
 # make test       the merge gate, rt ci: from nothing two hours on four processors of 2.5 GHz, by estimate,
 #                 and 2.75 on slower ones; minutes where a toolchain keeps on its machine what it proved
 # make bodies     the wrong bodies alone, ten at once
 # make refusals   the memory tests with each request for memory refused in turn: seconds, once the
 #                 gate or rt test has built the tests
 # make man        the manual page
+# make help       these lines
+#
+# These take the program that is there, as make build or the gate left it, and prove nothing:
+#
 # make install    puts the program, its manual page, and completions for bash and zsh below PREFIX, as in
 #                 make install PREFIX=$HOME/.local; where none is given it is /usr/local. DESTDIR stands
 #                 before it for packagers
 # make uninstall  takes these four files away again
+# make examples   compares what each example prints with what is stored beside it
+# make pictures   draws the examples; wants Graphviz
 # make bench      time and peak memory of each command on heavy inputs, of 1,024 and of 4,096 vertices
 # make memory     how much memory a cut asks for, counted and held against its bound: seconds
 # make races      races of 16 seats, each report compared with a small model's
 # make hostile    the program with bad files, outputs and words, and little memory; half a minute
 # make fuzz       the program on random texts for a minute, each answer compared with a small model's
+# make limits     the program on texts as large as may be, each answer compared with what it has to be
+# make rbac       what tools/from_rbac makes of small clusters, and the program's answers on that
+# make pipeline   the lines of examples/pipeline.yml, on a cluster and with commands that go wrong in turn
 
 OFFICER = crates/officer/out/officer
 PREFIX = /usr/local
@@ -42,11 +50,19 @@ LESS_OF_CLUSTER = $(foreach kind,groups secrets pods services events,--without '
 # 9.5 GB, and leaves processors idle.
 RT_JOBS ?= $(shell awk -v most=$$(nproc) '/^MemTotal/ { n = int($$2 / 5e6); print n < 1 ? 1 : n < most ? n : most }' /proc/meminfo)
 
-.PHONY: build demo examples pictures test bodies refusals man install uninstall bench memory races hostile fuzz
+.PHONY: build demo there help examples pictures test bodies refusals man install uninstall bench memory races hostile fuzz limits rbac pipeline
 
 build:
 	@echo "Proving and building officer and the crates below it: about half an hour on four slow processors from nothing, seconds after that."
 	@log=$$(mktemp); (cd crates/officer && rt run < stdin) > $$log 2>&1 || { tail -n 20 $$log; rm -f $$log; exit 1; }; rm -f $$log
+
+# The program that is there: to prove one takes long, and is begun only where that is asked for.
+there:
+	@test -x "$(OFFICER)" || { echo "There is no $(OFFICER) yet: make build proves and builds it."; exit 1; }
+
+# (the lines at the head of this file)
+help:
+	@sed -n '/^#/!q; s/^# \{0,1\}//p' Makefile
 
 show = echo "== officer $(1)"; $(OFFICER) $(1)
 
@@ -63,7 +79,7 @@ demo: build
 	@$(call show,cut $(GRAPH) r client payroll)
 	@$(call show,run $(GRAPH) $(FILES).script)
 
-examples: build
+examples: there
 	@$(OFFICER) < $(FILES).case | diff - $(FILES).case.out
 	@$(OFFICER) apply $(GRAPH) $(FILES).rules | diff - $(FILES).case.out
 	@$(OFFICER) apply $(GRAPH) $(FILES).refused.rules | diff - $(FILES).refused.out
@@ -141,7 +157,7 @@ draw = $(2) | tools/picture /dev/stdin $(3) --officer $(OFFICER)
 compare_picture = @$(draw) | diff - $(PICTURES)/$(1).dot
 write_picture = @$(draw) > $(PICTURES)/$(1).dot && dot -Tsvg $(PICTURES)/$(1).dot -o $(PICTURES)/$(1).svg
 
-pictures: build
+pictures: there
 	@command -v dot > /dev/null || { echo "The pictures want Graphviz: apt install graphviz, dnf install graphviz or brew install graphviz."; exit 1; }
 	$(call each_picture,write_picture)
 	@echo "The pictures are in $(PICTURES)."
@@ -159,8 +175,7 @@ man:
 	@man ./docs/officer.1
 
 # It proves nothing, so that root may call it where the toolchain is another's.
-install:
-	@test -x "$(OFFICER)" || { echo "There is no $(OFFICER) yet: make build proves and builds it."; exit 1; }
+install: there
 	@case "$(PREFIX)" in "~"*) echo 'PREFIX begins with ~, which the shell has left as it is: write $$HOME.'; exit 1;; esac
 	@install -D -m 755 "$(OFFICER)" "$(PROGRAM)"
 	@install -D -m 644 docs/officer.1 "$(MANUAL)"
@@ -172,22 +187,32 @@ uninstall:
 	@rm -f "$(PROGRAM)" "$(MANUAL)" "$(BASH_COMPLETIONS)" "$(ZSH_COMPLETIONS)"
 	@echo "$(PROGRAM) is gone, with its manual page and completions."
 
-bench: build
+bench: there
 	@python3 bench/bench.py $(OFFICER)
 	@for objects in 1000 7000; do \
 		echo "A cluster of $$objects objects, from its listing to its islands:"; \
-		python3 bench/cluster.py $$objects > crates/officer/out/cluster.json; \
-		bash -c 'time -p tools/from_rbac crates/officer/out/cluster.json | $(OFFICER) islands /dev/stdin > /dev/null'; \
+		listing=$$(mktemp); python3 bench/cluster.py $$objects > $$listing; \
+		bash -c "time -p tools/from_rbac $$listing | $(OFFICER) islands /dev/stdin > /dev/null"; \
+		rm -f $$listing; \
 	done
 
-memory: build
+memory: there
 	@python3 checks/memory.py $(OFFICER)
 
-races: build
+races: there
 	@python3 checks/races.py $(OFFICER)
 
-hostile: build
+hostile: there
 	@python3 checks/hostile.py $(OFFICER)
 
-fuzz: build
+fuzz: there
 	@python3 checks/fuzz.py $(OFFICER)
+
+limits: there
+	@python3 checks/limits.py $(OFFICER)
+
+rbac: there
+	@python3 checks/rbac.py $(OFFICER)
+
+pipeline: there
+	@python3 checks/pipeline.py $(OFFICER)
