@@ -205,7 +205,10 @@ def empty_policy_cases():
         "a word behind its line": "group g till # never r\n",
     }.items():
         yield Case(f"policy: {title}", policy=COMMENTS + lines)
-    for title, text in {"missing": None, "empty": "", "blank": "\n \n", "a folder": FOLDER}.items():
+    for title, text in {"missing": None, "empty": ""}.items():
+        shown = ("cluster.policy is missing or empty",)
+        yield Case(f"policy: {title}", files={"cluster.policy": text}, shown=shown)
+    for title, text in {"blank": "\n \n", "a folder": FOLDER}.items():
         yield Case(f"policy: {title}", files={"cluster.policy": text})
     for title, line in {
         "an unknown word": "allways r till payment_key\n",
@@ -239,13 +242,17 @@ def comment_cases():
 
 def command_cases():
     """Commands that fail, whatever they print."""
-    real = {"bin/kubectl": "cat listing.json", "bin/officer": "real/officer", "bin/grep": "real/grep"}
-    real["tools/from_rbac"] = "real/from_rbac"
+    real = {
+        "bin/kubectl": "cat listing.json",
+        "bin/officer": 'real/officer "$@"',
+        "bin/grep": 'real/grep "$@"',
+        "tools/from_rbac": 'real/from_rbac "$@"',
+    }
     endings = {f"status {status}": f"exit {status}" for status in (1, 2, 3, 127)}
     endings["a signal"] = "kill -9 $$"
     for (path, command), (how, ending) in product(real.items(), endings.items()):
         name = path.partition("/")[2]
-        yield Case(f"{name}: {how} after all", files={path: script(f'{command} "$@"', ending)})
+        yield Case(f"{name}: {how} after all", files={path: script(command, ending)})
         yield Case(f"{name}: {how} at once", files={path: script(ending)})
     for path in real:
         yield Case(f"{path} is missing", files={path: None})
@@ -253,8 +260,9 @@ def command_cases():
     half = script("head -c 900 listing.json")
     yield Case("kubectl: half of the listing, status 0", files={"bin/kubectl": half})
     yield Case("kubectl: half of the listing, status 1", files={"bin/kubectl": half + "exit 1\n"})
-    for path in "bin/kubectl", "tools/from_rbac":
-        yield Case(f"{path} prints nothing, status 0", files={path: script("cat > taken")})
+    yield Case("kubectl: nothing, status 0", files={"bin/kubectl": script()})
+    silent = {"tools/from_rbac": script("cat > taken")}
+    yield Case("from_rbac: nothing, status 0", files=silent, shown=("cluster.graph is missing or empty",))
     yield Case("kubectl: no listing", files={"bin/kubectl": script("echo nothing of it")})
     yield Case("kubectl: a text behind the listing", files={"bin/kubectl": script("cat listing.json", "echo more")})
 
@@ -310,7 +318,7 @@ def files_of(case, program, lines):
     texts = {
         "listing.json": listing(case.items),
         "cluster.policy": case.policy,
-        "bin/kubectl": script(f"exec cat listing.json"),
+        "bin/kubectl": script("exec cat listing.json"),
         "lines": lines,
     }
     return {**links, **texts, **case.files}
