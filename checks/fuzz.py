@@ -35,7 +35,7 @@ from concurrent.futures import ProcessPoolExecutor
 from math import inf
 from random import Random, SystemRandom
 
-from fuzz_cases.comparing import KINDS, LONGEST_RUN, Failure, Program
+from fuzz_cases.comparing import KINDS, Failure, Program
 from fuzz_cases.making import Maker
 
 KEPT_FAILURES = 5
@@ -57,7 +57,7 @@ def failure_in(path, folder, seed, number):
     except Failure as failure:
         fault, told, wanted = failure.difference(), failure.told, failure.wanted
     except subprocess.TimeoutExpired as late:
-        fault, told, wanted = f"{late.cmd} had not ended in {LONGEST_RUN} seconds", [], []
+        fault, told, wanted = f"{late.cmd} had not ended in {program.longest} seconds", [], []
     kept = os.path.join(tempfile.gettempdir(), f"fuzz-{seed}-{number}")
     program.keep(kept, told, wanted)
     again = f"texts, words and answers in {kept}; again: --seed {seed} --case {number}"

@@ -46,11 +46,15 @@ def lines_of(answer):
 
 
 class Program:
-    """The program, run in a folder of its own on texts that stand there as files."""
+    """The program, run in a folder of its own on texts that stand there as files.
 
-    def __init__(self, path, folder):
+    No run may take longer than `longest` seconds.
+    """
+
+    def __init__(self, path, folder, longest=LONGEST_RUN):
         self.path = path
         self.folder = folder
+        self.longest = longest
         self.texts = {}
         self.runs = []
 
@@ -72,7 +76,7 @@ class Program:
                 cwd=self.folder,
                 stdin=standard_input,
                 capture_output=True,
-                timeout=LONGEST_RUN,
+                timeout=self.longest,
                 check=False,
             )
         return ran.stdout, ran.stderr, ran.returncode
