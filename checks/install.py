@@ -1,14 +1,18 @@
 #!/usr/bin/env python3
-"""Puts the program in place below a scratch folder, tries what is there, and takes it away again.
+"""Tries the Makefile: puts the program in place below a scratch folder, and takes it away again.
 
 install.py [PROGRAM]. `make install` has to put four files in place, of which the program answers as
 the built one does, the manual page is the one of docs/, and the completions offer what fits; `make
 uninstall` has to take just these four away. Without PROGRAM a script that prints its words stands
-for it. What is tried of zsh alone is left out where zsh is not there. The last line is `N cases, M
-failures`; the status is 1 where a case failed.
+for it. What is tried of zsh alone is left out where zsh is not there.
+
+Each target that wants the program is called where there is none: it has to name `make build`, and
+may not begin a proof. `make help` has to have each target. The last line is `N cases, M failures`;
+the status is 1 where a case failed.
 """
 import argparse
 import os
+import re
 import shutil
 import subprocess
 import sys
@@ -19,6 +23,8 @@ TOP = Path(__file__).resolve().parent.parent
 GRAPH = TOP / "examples/file_service.graph"
 # A text whose vertices are no names: a shell that expanded them would run a command.
 NASTY_GRAPH = "vertex $(>ran)\nvertex `>ran`\nvertex a\nvertex B\nvertex $HOME\nvertex b\r\n"
+WANT_THE_PROGRAM = "install examples pictures bench memory races hostile fuzz limits rbac pipeline".split()
+STANDS_FOR_TOOLCHAIN = '#!/bin/sh\ntouch "$0.was_called"\n'
 STANDS_FOR_PROGRAM = '#!/bin/sh\nprintf "%s\\n" "$@"\n'
 MANUAL = "share/man/man1/officer.1"
 BASH_COMPLETIONS = "share/bash-completion/completions/officer"
@@ -61,10 +67,10 @@ OFFERS = [
 ]
 
 
-def make(target, *settings):
-    """Calls make for a target."""
+def make(target, *settings, path=os.environ["PATH"]):
+    """Calls make for a target. Commands are looked for on the path."""
     command = ["make", "--no-print-directory", "-C", TOP, target, *settings]
-    return subprocess.run(command, capture_output=True, text=True)
+    return subprocess.run(command, capture_output=True, text=True, env={**os.environ, "PATH": path})
 
 
 def tree(folder):
@@ -139,8 +145,34 @@ def install_cases(scratch, built):
     yield "all is below the stage", tree(stage / place.relative_to("/")) == FILES and list(tree(place)) == ["bin/another"]
 
 
+def target_cases(scratch, built):
+    """What targets do where there is no program, and that none is proved for them where there is one."""
+    toolchain = scratch / "toolchain/rt"
+    toolchain.parent.mkdir()
+    toolchain.write_text(STANDS_FOR_TOOLCHAIN)
+    toolchain.chmod(0o755)
+    path, called = f"{toolchain.parent}:{os.environ['PATH']}", toolchain.parent / "rt.was_called"
+    for target in WANT_THE_PROGRAM:
+        done = make(target, f"OFFICER={scratch}/missing", f"PREFIX={scratch}/nowhere", path=path)
+        yield f"make {target} without a program", done.returncode and "make build" in done.stdout
+        yield f"make {target} begins no proof", not called.exists()
+        commands = make("-n", target, f"OFFICER={built}").stdout
+        yield f"make {target} calls no toolchain", commands and not re.search(r"\brt [a-z]", commands)
+    make("build", path=path)
+    yield "make build calls the toolchain", called.exists()
+
+
+def help_cases():
+    """What `make help` says, beside the targets that the Makefile has."""
+    said = make("help")
+    named = re.findall(r"(?m)^make (\w+) ", said.stdout)
+    targets = set(re.search(r"(?m)^\.PHONY: (.*)$", (TOP / "Makefile").read_text())[1].split())
+    yield "make help", not said.returncode and said.stdout.startswith("make demo ")
+    yield "make help has each target once", sorted(named) == sorted(targets - {"there"})
+
+
 def main():
-    parser = argparse.ArgumentParser(description="Tries make install and make uninstall in a scratch folder.")
+    parser = argparse.ArgumentParser(description="Tries the Makefile, with a scratch folder to install in.")
     parser.add_argument("program", nargs="?", help="the program that is put in place")
     program = parser.parse_args().program
     with tempfile.TemporaryDirectory() as folder:
@@ -148,7 +180,8 @@ def main():
         stand_in = scratch / "a stand in"
         stand_in.write_text(STANDS_FOR_PROGRAM)
         stand_in.chmod(0o755)
-        cases = list(install_cases(scratch, os.path.abspath(program) if program else stand_in))
+        built = os.path.abspath(program) if program else stand_in
+        cases = [*install_cases(scratch, built), *target_cases(scratch, built), *help_cases()]
     failures = [title for title, holds in cases if not holds]
     for title in failures:
         print(f"FAILED {title}")
