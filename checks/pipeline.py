@@ -231,13 +231,13 @@ def comment_cases():
     yield Case("a stale comment of a name that no line has", True, policy=other + POLICY, shown=("kept\n",))
     swapped = POLICY.replace("ops/runner", "OPS").replace("shop/till", "ops/runner").replace("OPS", "shop/till")
     yield Case("comments of two names that changed places", policy=swapped, shown=("runner", "till"))
-    many = CLUSTER + USERS
-    first = first_policy(many)
-    yield Case("the first policy, of names with spaces and a long one", True, many, first, shown=("kept\n",))
-    yield Case("the last word of a name with spaces differs", items=many, policy=first.replace("(by night)", "(by day)"))
-    yield Case("the last word of a long name differs", items=many, policy=first.replace("shop, by night", "shop, by day"))
-    cut = [line for line in first.splitlines(True) if not line.endswith(", by night\n")]
-    yield Case("the last line of a long name is gone", items=many, policy="".join(cut))
+    first = first_policy(CLUSTER + USERS)
+    of_users = partial(Case, items=CLUSTER + USERS)
+    yield of_users("the first policy, of names with spaces and a long one", True, policy=first, shown=("kept\n",))
+    yield of_users("the last word of a name with spaces differs", policy=first.replace("(by night)", "(by day)"))
+    yield of_users("the last word of a long name differs", policy=first.replace("shop, by night", "shop, by day"))
+    left = [line for line in first.splitlines(True) if not line.endswith(", by night\n")]
+    yield of_users("the last line of a long name is gone", policy="".join(left))
 
 
 def command_cases():
