@@ -199,6 +199,17 @@ def self_grant_questions():
         (robot,),
         held={(ANN, pods): "g", (pods, ANN): "g", (pods, pods): "", (ANN, ANN): "g"},
     )
+    abe, over = "users abe", (ANN, BOB, "rolebindings *")
+    entered = [account("n/robot"), token("n/pass", "robot")]
+    entered += may(BOB, "create", "pods/exec", place="n")
+    yield Question(
+        "a grant from one left out to another that pods may run as",
+        [*entered, *may(ANN, "impersonate", "users", "abe"), *may(abe, *MAKES_ROLES)],
+        {("g", ANN, pods): "yes"},
+        (abe, robot),
+        held={(ANN, pods): "g", (pods, ANN): ""},
+        through={(ANN, pods): abe} | {(ANN, it): abe for it in over},
+    )
     zed = "users zed"
     items = [secret("n/key"), *runs_as(ANN, zed), *runs_as(BOB, DOT), *may(zed, *MAKES_ROLES)]
     yield Question(

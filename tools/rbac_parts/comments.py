@@ -30,13 +30,11 @@ def comments_in(lines):
     return comments
 
 
-def difference(name, comments, remainder):
-    """What is wrong with the comments on a name, or None."""
-    if name not in remainder.names:
+def difference(name, comments, thing, is_left_out):
+    """What is wrong with the comments on a name, or None. It may stand for no thing."""
+    if thing is None:
         return "it is no vertex of the graph"
-    place = remainder.names.index(name)
-    wanted = legend(remainder.graph.things[place], name)
-    is_left_out = place in remainder.left_out
+    wanted = legend(thing, name)
     if not is_left_out and comments and comments == wanted * (len(comments) // len(wanted)):
         return None
     said = "".join(line[WORDS_AT:] for line in comments)
@@ -48,8 +46,10 @@ def difference(name, comments, remainder):
 def check_same(policy, path, remainder):
     """Raises a fault unless a policy has, on all that it names, the comments of the graph."""
     lines = [line.rstrip("\r") for line in policy.decode("latin-1").split("\n")]
-    comments = comments_in(lines)
-    told = {name: difference(name, comments[name], remainder) for name in named_in(lines)}
+    comments, left_out = comments_in(lines), {remainder.names[it] for it in remainder.left_out}
+    things = dict(zip(remainder.names, remainder.graph.things))
+    told = {name: difference(name, comments[name], things.get(name), name in left_out)
+            for name in named_in(lines)}
     wrong = [f"\n  {name!a:.40}: {told[name]}" for name in told if told[name]]
     if wrong:
         raise Fault(f"{path}: names that do not stand for what its comments say: {len(wrong)}"
