@@ -25,6 +25,7 @@ class Remainder:
         self.kept = [graph.places[thing] for thing in in_order if thing not in left_out]
         self.left_out = [graph.places[thing] for thing in in_order if thing in left_out]
         self.names = [names.get(thing) for thing in graph.things]
+        self.order = {graph.places[thing]: number for number, thing in enumerate(in_order)}
         stays, count = sum(1 << place for place in self.kept), len(graph.things)
         self.own = [{right: mask & stays for right, mask in graph.rows[thing].items()}
                     for thing in graph.things]
@@ -78,13 +79,12 @@ class Remainder:
         held = [(right, mask) for right, mask in self.own[hub].items() if mask]
         if self.was_passed_on((takers, fetchers, granters), held):
             return
-        for place in places_in(takers | granters):
+        for place in places_in(takers & ~granters if not fetchers else 0):
+            self.give(place, held, hub)
+        for place in places_in(granters if not fetchers else takers | granters):
             bit = 1 << place
-            given = held if takers & bit else []
-            if takers & bit and fetchers:
-                given = [*given, ("g", fetchers & ~bit)]
-            if granters & bit:
-                given = [*given, ("g", takers & ~bit)]
+            given = [*held, ("g", fetchers & ~bit)] if takers & bit else []
+            given += [("g", takers & ~bit)] if granters & bit else []
             self.give(place, given, hub)
 
     def was_passed_on(self, ends, held):
@@ -120,11 +120,13 @@ class Remainder:
 
     def by_whom(self, place):
         """Over whom one that stays has rights that came of leaving out, and by whom: names."""
-        return sorted((self.names[end], self.names[hub])
-                      for hub, mask in self.through[place] for end in places_in(mask))
+        hubs = {end: hub for hub, mask in self.through[place] for end in places_in(mask)}
+        return [(self.names[end], self.names[hubs[end]])
+                for end in sorted(hubs, key=self.order.get)]
 
     def edges(self):
         """The edges from each that stays: its name, and pairs of a name and its letters."""
         for place in self.kept:
-            pairs = labels_in(self.rows[place])
-            yield self.names[place], sorted((self.names[end], label) for end, label in pairs)
+            labels = dict(labels_in(self.rows[place]))
+            ends = sorted(labels, key=self.order.get)
+            yield self.names[place], [(self.names[end], labels[end]) for end in ends]

@@ -15,8 +15,8 @@ def text_of(blocks, fault):
     """Blocks of lines as one text. Where it is longer than a text may be, the fault is raised."""
     parts, room = [], MOST_BYTES
     for block in blocks:
-        parts += (line + "\n" for line in block)
-        room -= sum(len(line) + 1 for line in block)
+        parts.append("\n".join([*block, ""]))
+        room -= len(parts[-1])
         if room < 0:
             raise Fault(fault())
     return "".join(parts)
