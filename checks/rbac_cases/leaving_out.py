@@ -199,6 +199,15 @@ def self_grant_questions():
         (robot,),
         held={(ANN, pods): "g", (pods, ANN): "g", (pods, pods): "", (ANN, ANN): "g"},
     )
+    items = [account("n/robot"), token("n/pass", "robot"), *may(ANN, *MAKES_ROLES)]
+    yield Question(
+        "who may grant to a left-out account that pods run as reaches them",
+        [*items, *may(BOB, "create", "pods/exec", place="n")],
+        {("g", ANN, pods): "yes"},
+        (robot,),
+        held={(ANN, pods): "g", (pods, ANN): "", (pods, pods): ""},
+        through={(ANN, pods): robot},
+    )
     abe, over = "users abe", (ANN, BOB, "rolebindings *")
     entered = [account("n/robot"), token("n/pass", "robot")]
     entered += may(BOB, "create", "pods/exec", place="n")

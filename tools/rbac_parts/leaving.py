@@ -79,12 +79,13 @@ class Remainder:
         held = [(right, mask) for right, mask in self.own[hub].items() if mask]
         if self.was_passed_on((takers, fetchers, granters), held):
             return
-        for place in places_in(takers & ~granters if not fetchers else 0):
-            self.give(place, held, hub)
-        for place in places_in(granters if not fetchers else takers | granters):
+        for place in places_in(takers | granters):
             bit = 1 << place
-            given = [*held, ("g", fetchers & ~bit)] if takers & bit else []
-            given += [("g", takers & ~bit)] if granters & bit else []
+            given = held if takers & bit else []
+            if takers & bit and fetchers:
+                given = [*given, ("g", fetchers & ~bit)]
+            if granters & bit:
+                given = [*given, ("g", takers & ~bit)]
             self.give(place, given, hub)
 
     def was_passed_on(self, ends, held):

@@ -12,7 +12,8 @@ def short_names(things):
     names, used, numbers = {}, set(), {}
     for thing in sorted(things, key=lambda thing: (thing.kind not in ACCOUNT_KINDS, thing)):
         words = thing.name or f"{thing.kind}_{thing.namespace}".strip("_")
-        whole = re.sub("^(?=[0-9])|[^a-z0-9_]", "_", words.lower())
+        # (what is too long is cut anyway; so things that begin alike are numbered together)
+        whole = re.sub("^(?=[0-9])|[^a-z0-9_]", "_", words[:LONGEST_NAME + 1].lower())
         number, name = numbers.get(whole, 0), whole
         while len(name) > LONGEST_NAME or name in used:
             number += 1
