@@ -1,7 +1,7 @@
 """What is left out with --without, and the ways through it."""
 from rbac_cases.listings import account, binding, cluster_role, may, secret, text_of, token
 from rbac_cases.questions import Question
-from rbac_cases.runs import GraphText, expect, has_parts, leaving, run_tool, text_for
+from rbac_cases.runs import GraphText, expect, leaving, run_tool, text_for
 
 ANN, BOB, CID = "users ann", "users bob", "users cid"
 DOT, EVE, FAY = "users dot", "users eve", "users fay"

@@ -8,7 +8,7 @@ from collections import defaultdict
 from itertools import product
 from random import Random
 
-from rbac_cases.listings import account, binding, cluster_role, item, may, rule, secret, text_of
+from rbac_cases.listings import account, binding, cluster_role, item, rule, secret, text_of
 from rbac_cases.listings import token
 from rbac_cases.runs import Failure, GraphText, Officer, expect, leaving, run_tool, text_for
 
