@@ -5,9 +5,9 @@ use Rattle.officer.specs.declared.fault.Cause.{Cause}
 use Rattle.officer.specs.declared.fault.Cause.TheVariants.{Graph, Second}
 use Rattle.officer.specs.declared.fetch.FetchFault.{FetchFault}
 use Rattle.officer.specs.declared.surroundings.WordsFault.{WordsFault}
-use Rattle.tg_inputs.specs.Calls.{CallWords, CommandWords, call_of, command_of}
+use Rattle.tg_inputs.specs.Calls.{CallWords, CommandWords, command_of, RequestWords, request_of}
 use Rattle.tg_inputs.specs.Readings.{ReportText}
-use Rattle.officer.specs.Dealings.{Dealing, Words, File, Adds, Deals, text_or, and_text, GoesOn, ReadsBoth, Reads, IsReportOf, Prints, AnswersCall, AnswersForm, AnswersWords, IsRun}
+use Rattle.officer.specs.Dealings.{Dealing, Words, File, Adds, Deals, text_or, and_text, GoesOn, ReadsBoth, Reads, IsReportOf, Prints, AnswersCall, AnswersRequest, AnswersForm, AnswersWords, IsRun}
 
 -- dealings and then more
 adds_more : (before mid after : Option (List Dealing)) (some more : List Dealing) → Adds before mid some → Adds mid after more → Adds before after (some ++ more)
@@ -49,15 +49,15 @@ call_answered before mid after call texts first second report end d e is p = rec
   };
 }
 
--- words are given, and the call of their form is answered
-pub words_answered : (before mid after : Option (List Dealing)) (given : Result (List (List ℕ)) WordsFault) (words : List (List ℕ)) (call : CallWords) (end : Result ℕ Cause) → Adds before mid (Words given ∷ []) → given ≡ Ok words → call_of words ≡ Some call → Deals mid after (AnswersCall call end) → Deals before after (IsRun end)
-words_answered before mid after given words call end h e form d = record {
+-- words are given, and what they ask for is answered
+pub words_answered : (before mid after : Option (List Dealing)) (given : Result (List (List ℕ)) WordsFault) (words : List (List ℕ)) (request : RequestWords) (end : Result ℕ Cause) → Adds before mid (Words given ∷ []) → given ≡ Ok words → request_of words ≡ Some request → Deals mid after (AnswersRequest request end) → Deals before after (IsRun end)
+words_answered before mid after given words request end h e form d = record {
   dealings = Words given ∷ d.dealings;
   added = adds_more before mid after (Words given ∷ []) d.dealings h d.added;
   fact = record {
     words = given;
     after = d.dealings;
     asked = refl;
-    answers = subst (λ (w : Result (List (List ℕ)) WordsFault). AnswersWords w end d.dealings) (sym e) (inl (subst (λ (o : Option CallWords). AnswersForm o end d.dealings) (sym form) d.fact));
+    answers = subst (λ (w : Result (List (List ℕ)) WordsFault). AnswersWords w end d.dealings) (sym e) (inl (subst (λ (o : Option RequestWords). AnswersForm words o end d.dealings) (sym form) d.fact));
   };
 }

@@ -6,10 +6,11 @@ use Rattle.officer.specs.declared.fault.Cause.TheVariants.{Graph, Second}
 use Rattle.officer.specs.declared.deliver.DeliverFault.{DeliverFault}
 use Rattle.officer.specs.declared.fetch.FetchFault.{FetchFault}
 use Rattle.officer.specs.declared.surroundings.WordsFault.{WordsFault}
-use Rattle.tg_inputs.specs.Calls.{CallWords, Input as input, File as file, Files as files, Race as race, call_of, command_of}
+use Rattle.tg_inputs.specs.Calls.{CallWords, Input as input, File as file, Files as files, Race as race, command_of, RequestWords, Help as help, Version as version, Report as report_on, request_of}
 use Rattle.tg_inputs.specs.Readings.{ReportText}
-use Rattle.officer.specs.Dealings.{Dealing, Words, Input, File, Print, text_or, and_text, GoesOn, Reads, end_of_print, Answers, AnswersForm, AnswersWords}
-use Rattle.officer.specs.RunLaws.{texts_given, HasPrinted, RunsPrintReports}
+use Rattle.officer.specs.declared.TheConstants.{HELP, VERSION}
+use Rattle.officer.specs.Dealings.{Dealing, Words, Input, File, Print, text_or, and_text, GoesOn, Reads, told, end_of_print, Prints, Answers, AnswersRequest, AnswersForm, AnswersWords}
+use Rattle.officer.specs.RunLaws.{texts_given, texts_read, IsAnswer, HasPrinted, RunsPrintReports}
 
 ok_err : {A B : Type 0} (E : Type 0) (x : B) (y : E) → ◌≡◌ {A = Result B E} (Ok x) (Err y) → A
 ok_err E x y e = cc
@@ -45,13 +46,28 @@ report_printed : (report : ReportText) (status : ℕ) (after : List Dealing) (an
 report_printed report status after (Ok done) e k = (e, ok_is status report.status k)
 report_printed report status after (Err fault) e k = ok_err Cause status _ k
 
-call_printed : (words : List (List ℕ)) (call : CallWords) (status : ℕ) (dealings reading after : List Dealing) (texts : Result (List ℕ × List ℕ) Cause) → call_of words ≡ Some call → dealings ≡ reading ++ after → Reads call texts reading → Answers (command_of call) texts (Ok status) after → HasPrinted status (Words (Ok words) ∷ dealings)
+text_printed : (words : List (List ℕ)) (request : RequestWords) (report : ReportText) (status : ℕ) (dealings : List Dealing) → request_of words ≡ Some request → texts_read request [] [] ≡ [] → IsAnswer request [] [] report → Prints report (Ok status) dealings → HasPrinted status (Words (Ok words) ∷ dealings)
+text_printed words request report status dealings asked none is p =
+    let printed = report_printed report status dealings p.answer p.asked p.end_is in
+    record {
+      words = words;
+      request = request;
+      first = [];
+      second = [];
+      report = report;
+      asked = asked;
+      is = is;
+      done = ap (λ (ds : List Dealing). Words (Ok words) ∷ ds) (printed.0 ∙ ap (λ (ds : List Dealing). ds ++ Print report.bytes (Ok tt) ∷ []) (sym none));
+      same = printed.1;
+    }
+
+call_printed : (words : List (List ℕ)) (call : CallWords) (status : ℕ) (dealings reading after : List Dealing) (texts : Result (List ℕ × List ℕ) Cause) → request_of words ≡ Some (report_on call) → dealings ≡ reading ++ after → Reads call texts reading → Answers (command_of call) texts (Ok status) after → HasPrinted status (Words (Ok words) ∷ dealings)
 call_printed words call status dealings reading after (Ok texts) asked turn r (inl p) =
     let printed = report_printed p.report status after p.prints.answer p.prints.asked p.prints.end_is in
     let given = reads_given call texts.0 texts.1 reading r in
     record {
       words = words;
-      call = call;
+      request = report_on call;
       first = texts.0;
       second = texts.1;
       report = p.report;
@@ -63,12 +79,17 @@ call_printed words call status dealings reading after (Ok texts) asked turn r (i
 call_printed words call status dealings reading after (Ok texts) asked turn r (inr stops) = ok_err Cause status _ stops.1
 call_printed words call status dealings reading after (Err cause) asked turn r stops = ok_err Cause status _ stops.1
 
-form_printed : (words : List (List ℕ)) (status : ℕ) (dealings : List Dealing) (o : Option CallWords) → call_of words ≡ o → AnswersForm o (Ok status) dealings → HasPrinted status (Words (Ok words) ∷ dealings)
+request_printed : (words : List (List ℕ)) (request : RequestWords) (status : ℕ) (dealings : List Dealing) → request_of words ≡ Some request → AnswersRequest request (Ok status) dealings → HasPrinted status (Words (Ok words) ∷ dealings)
+request_printed words help status dealings e p = text_printed words help (told HELP.now) status dealings e refl refl p
+request_printed words version status dealings e p = text_printed words version (told VERSION.now) status dealings e refl refl p
+request_printed words (report_on call) status dealings e a = call_printed words call status dealings a.reading a.after a.texts e a.in_turn a.reads a.answers
+
+form_printed : (words : List (List ℕ)) (status : ℕ) (dealings : List Dealing) (o : Option RequestWords) → request_of words ≡ o → AnswersForm words o (Ok status) dealings → HasPrinted status (Words (Ok words) ∷ dealings)
 form_printed words status dealings None e stops = ok_err Cause status _ stops.1
-form_printed words status dealings (Some call) e a = call_printed words call status dealings a.reading a.after a.texts e a.in_turn a.reads a.answers
+form_printed words status dealings (Some request) e a = request_printed words request status dealings e a
 
 words_printed : (given : Result (List (List ℕ)) WordsFault) (status : ℕ) (dealings : List Dealing) → AnswersWords given (Ok status) dealings → HasPrinted status (Words given ∷ dealings)
-words_printed (Ok words) status dealings (inl a) = form_printed words status dealings (call_of words) refl a
+words_printed (Ok words) status dealings (inl a) = form_printed words status dealings (request_of words) refl a
 words_printed (Ok words) status dealings (inr stops) = ok_err Cause status _ stops.1
 words_printed (Err fault) status dealings stops = ok_err Cause status _ stops.1
 

@@ -7,9 +7,11 @@ use Rattle.officer.specs.declared.call.Texts.{Texts}
 use Rattle.officer.specs.declared.deliver.DeliverFault.{DeliverFault}
 use Rattle.officer.specs.declared.fetch.FetchFault.{FetchFault}
 use Rattle.officer.specs.declared.surroundings.WordsFault.{WordsFault}
+use Rattle.officer.specs.declared.TheConstants.{HELP, VERSION}
 use Rattle.officer.specs.Faults.{cause_of_fetch, cause_of_words}
+use Rattle.officer.specs.Forms.{nearest_form}
 use Rattle.tg_inputs.specs.Readings.{ReportText}
-use Rattle.tg_inputs.specs.Calls.{CallWords, Input as input, File as file, Files as files, Race as race, CommandWords, call_of, command_of}
+use Rattle.tg_inputs.specs.Calls.{CallWords, Input as input, File as file, Files as files, Race as race, CommandWords, command_of, RequestWords, Help as help, Version as version, Report as report_on, request_of}
 use Rattle.tg_reports.specs.Reports.{IsReport}
 use Rattle.tg_plays.specs.Races.{IsRaceReport}
 
@@ -81,6 +83,10 @@ Reads (file command graph) texts dealings = ReadsGraph (File graph) texts dealin
 Reads (files command graph path) texts dealings = ReadsBoth graph path texts dealings
 Reads (race graph path) texts dealings = ReadsBoth graph path texts dealings
 
+-- a report of these bytes
+abbrev pub report_with : List ℕ → ℕ → ReportText
+report_with text status = record { bytes = text; status = status }
+
 -- the end after a report was printed: its status, unless the output did not take it
 abbrev pub end_of_print : ReportText → Result ⊤ DeliverFault → Result ℕ Cause
 end_of_print report answer = result_map_both (λ _. report.status) (λ _. Write) answer
@@ -120,17 +126,27 @@ pub record AnswersCall (call : CallWords) (end : Result ℕ Cause) (dealings : L
   pub reads : Reads call texts reading
   pub answers : Answers (command_of call) texts end after
 
--- what was done with words: the call of their form was answered, if they have one
-abbrev pub AnswersForm : Option CallWords → Result ℕ Cause → List Dealing → Type 0
-AnswersForm None end dealings = Stops NoWords end dealings
-AnswersForm (Some call) end dealings = AnswersCall call end dealings
+-- a text of the program's own as a report
+abbrev pub told : List ℕ → ReportText
+told text = report_with text 0
+
+-- what is asked for was answered: without a text that is read, or as the call that it is
+abbrev pub AnswersRequest : RequestWords → Result ℕ Cause → List Dealing → Type 0
+AnswersRequest help end dealings = Prints (told HELP.now) end dealings
+AnswersRequest version end dealings = Prints (told VERSION.now) end dealings
+AnswersRequest (report_on call) end dealings = AnswersCall call end dealings
+
+-- what was done with words: what they ask for was answered, if they ask for anything
+abbrev pub AnswersForm : List (List ℕ) → Option RequestWords → Result ℕ Cause → List Dealing → Type 0
+AnswersForm words None end dealings = Stops (NoWords (nearest_form words)) end dealings
+AnswersForm words (Some request) end dealings = AnswersRequest request end dealings
 
 -- what was done once the words were asked for, which is nothing where they were not given or there was no memory
 abbrev pub AnswersWords : Result (List (List ℕ)) WordsFault → Result ℕ Cause → List Dealing → Type 0
-AnswersWords (Ok words) end dealings = AnswersForm (call_of words) end dealings ⊎ Stops Memory end dealings
+AnswersWords (Ok words) end dealings = AnswersForm words (request_of words) end dealings ⊎ Stops Memory end dealings
 AnswersWords (Err fault) end dealings = Stops (cause_of_words fault) end dealings
 
--- a run of the program: it asks for the words, reads the texts of their call, prints the report, and ends so
+-- a run of the program: it asks for the words, answers what they ask for, and ends so
 pub record IsRun (end : Result ℕ Cause) (dealings : List Dealing) : Type 0 where
   pub words : Result (List (List ℕ)) WordsFault
   pub after : List Dealing

@@ -1,4 +1,5 @@
 pub mod Inputs
+pub mod Forms
 pub mod Faults
 pub mod Dealings
 pub mod RunLaws

@@ -1,16 +1,18 @@
 //! What the program does for its command line.
 ghost use Rattle.std.specs.Prelude.{◌≡◌, [], IfOk, Ok, map, string_bytes};
 ghost use Rattle.tg_inputs.specs.Calls.{call_words, command_of};
-ghost use Rattle.officer.specs.Dealings.{Deals, Reads, ReadsBoth, Prints, IsReportOf, AnswersCall, IsRun, and_text, bytes_of, text_or, seen};
+ghost use Rattle.officer.specs.Dealings.{Deals, Reads, ReadsBoth, Prints, IsReportOf, AnswersCall, IsRun, and_text, bytes_of, report_with, text_or, seen};
 ghost use Rattle.tg_inputs.specs.Outcomes.{report_text};
 
 use crate::deliver::DeliverFault;
 use crate::fault::Cause;
 use crate::fetch::FetchFault;
+use crate::forms::nearest_form;
+use crate::help::{HELP, VERSION};
 use crate::surroundings::{Surroundings, WordsFault};
 use std::alloc::{AllocError, Global};
 use std::thread::Threads;
-use tg_reports::{Call, Report, race, read_words, report_of_texts};
+use tg_reports::{Call, Report, Request, race, read_words, report_of_texts};
 
 // The texts of a command; where it has one text, the second is empty.
 #[derive(Drop)]
@@ -90,13 +92,13 @@ fn texts_of<S: Surroundings>(
     }
 }
 
-// Prints a report, and answers its status.
-fn print<S: Surroundings>(surroundings: &mut S, report: &Report) -> Result<u8, Cause>
+// Prints bytes, and answers the status.
+fn print<S: Surroundings>(surroundings: &mut S, bytes: &[u8], status: u8) -> Result<u8, Cause>
     ensures { Deals (S.dealings surroundings.old) (S.dealings surroundings.new)
-        (Prints (report_text report.now) result) }
+        (Prints (report_with bytes.now status) result) }
 {
-    match surroundings.print(&report.bytes) {
-        Ok(()) => Ok(report.status),
+    match surroundings.print(bytes) {
+        Ok(()) => Ok(status),
         Err(DeliverFault::CannotWrite) => Err(Cause::Write),
     }
 }
@@ -138,7 +140,7 @@ fn answer<R: Threads + Sync + AllocGlobal, S: Surroundings>(
         Err(cause) => return Err(cause),
     };
     match report_of(rt, call, texts) {
-        Ok(report) => print(surroundings, &report),
+        Ok(report) => print(surroundings, &report.bytes, report.status),
         Err(AllocError) => Err(Cause::Memory),
     }
 }
@@ -155,8 +157,8 @@ fn slices<'a>(alloc: Global, words: &'a [String]) -> Result<Vec<&'a str>, AllocE
     Ok(slices)
 }
 
-/// Prints the report that the words of the command line ask for. It answers the status of the
-/// report.
+/// Prints the report that the words of the command line ask for, or what they ask of the program
+/// itself. It answers the status of the report.
 ///
 /// The words come first, then the graph, and a second file only once the graph is there. An error
 /// means that one of these did not come, that there was no memory, or that the output did not take
@@ -169,14 +171,16 @@ pub fn run<R: Threads + Sync + AllocGlobal, S: Surroundings>(
 {
     let words = match surroundings.words(rt.alloc()) {
         Ok(words) => words,
-        Err(WordsFault::Unreadable) => return Err(Cause::Words),
+        Err(WordsFault::Unreadable) => return Err(Cause::Words(None)),
         Err(WordsFault::Memory) => return Err(Cause::Memory),
     };
     let Ok(words) = slices(rt.alloc(), &words) else {
         return Err(Cause::Memory);
     };
     match read_words(&words) {
-        Some(call) => answer(rt, surroundings, &call),
-        None => Err(Cause::Words),
+        Some(Request::Help) => print(surroundings, HELP.as_bytes(), 0),
+        Some(Request::Version) => print(surroundings, VERSION.as_bytes(), 0),
+        Some(Request::Report(call)) => answer(rt, surroundings, &call),
+        None => Err(Cause::Words(nearest_form(&words))),
     }
 }

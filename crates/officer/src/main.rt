@@ -7,6 +7,8 @@ pub mod deliver;
 mod famine_tests;
 pub mod fault;
 pub mod fetch;
+pub mod forms;
+pub mod help;
 pub mod laws;
 #[cfg(test)]
 mod memory_tests;
@@ -15,7 +17,7 @@ pub mod surroundings;
 mod surroundings_tests;
 
 use call::run;
-use fault::fault_line;
+use fault::{fault_line, form_line};
 use std::process::ExitCode;
 use surroundings::Process;
 
@@ -26,6 +28,9 @@ fn main(rt: HostRuntime) -> ExitCode {
             let (line, status) = fault_line(cause);
             // where standard error takes no line either, the status tells
             let _ = rt.eprintln(line);
+            if let Some(form) = form_line(cause) {
+                let _ = rt.eprintln(form);
+            }
             ExitCode::from(status)
         }
     }

@@ -1,7 +1,9 @@
 use crate::call::run;
 use crate::deliver::{DeliverFault, deliver};
-use crate::fault::{Cause, fault_line};
+use crate::fault::{Cause, fault_line, form_line};
 use crate::fetch::{FetchFault, MOST_BYTES, Reads, fetch, fetch_counting};
+use crate::forms::{Form, nearest_form};
+use crate::help::{HELP, VERSION};
 use crate::surroundings::{Process, Surroundings, WordsFault};
 use std::alloc::{AllocError, Global};
 use std::io::{Error, ErrorKind, Read, Write};
@@ -249,10 +251,37 @@ fn fault_lines(rt: HostRuntime) {
         (Cause::TooLarge, "officer: input too large", 3),
         (Cause::Memory, "officer: no memory", 3),
         (Cause::Write, "officer: cannot write", 3),
-        (Cause::Words, "officer: bad command line", 2),
+        (Cause::Words(None), "officer: bad command line", 2),
     ] {
         says(&rt, cause, line, status);
     }
+}
+
+// This form is the nearest to the words, and so it is told.
+fn is_near(rt: &impl Abort, words: &[&str], form: Option<Form>, line: &str) {
+    let nearest = nearest_form(words);
+    assert!(rt; nearest == form);
+    assert!(rt; form_line(Cause::Words(nearest)) == Some(line));
+}
+
+#[test]
+fn nearest_forms(rt: HostRuntime) {
+    let share = "officer: usage: officer share G RIGHTS X Y";
+    is_near(&rt, &["share", "G"], Some(Form::Share), share);
+    is_near(&rt, &["shore"], Some(Form::Share), share);
+    let race = "officer: usage: officer race G SCRIPT";
+    is_near(&rt, &["rate", "check"], Some(Form::Race), race);
+    let reach = "officer: usage: officer reach G X";
+    is_near(&rt, &["r"], Some(Form::Reach), reach);
+    let all = "officer: officer --help lists all forms";
+    is_near(&rt, &["Check", "G"], None, all);
+    is_near(&rt, &[], None, all);
+}
+
+#[test]
+fn one_line_alone(rt: HostRuntime) {
+    assert!(rt; form_line(Cause::Memory).is_none());
+    assert!(rt; form_line(Cause::Second).is_none());
 }
 
 // What a question to a desk gives.
@@ -399,11 +428,19 @@ fn printed_reports(rt: HostRuntime) {
 }
 
 #[test]
+fn printed_texts(rt: HostRuntime) {
+    prints(&rt, &["--help"], b"wp", HELP.as_bytes(), 0);
+    prints(&rt, &["-V"], b"wp", b"officer 1.0.0\n".as_slice(), 0);
+    assert!(rt; VERSION == "officer 1.0.0\n");
+}
+
+#[test]
 fn words_that_stop(rt: HostRuntime) {
-    stops(&rt, desk_for(rt.alloc(), &["fly", "g"]), b"w", Cause::Words);
+    let derive = Cause::Words(Some(Form::Derive));
+    stops(&rt, desk_for(rt.alloc(), &["dare", "g"]), b"w", derive);
     let mut unreadable = desk_for(rt.alloc(), &[]);
     unreadable.words = Held::Unreadable;
-    stops(&rt, unreadable, b"w", Cause::Words);
+    stops(&rt, unreadable, b"w", Cause::Words(None));
     let mut memory = desk_for(rt.alloc(), &[]);
     memory.words = Held::Memory;
     stops(&rt, memory, b"w", Cause::Memory);
@@ -450,6 +487,9 @@ fn an_output_that_stops(rt: HostRuntime) {
     let mut full = desk_for(rt.alloc(), &["islands", "g"]);
     full.takes = false;
     stops(&rt, full, b"wgp", Cause::Write);
+    let mut help = desk_for(rt.alloc(), &["-h"]);
+    help.takes = false;
+    stops(&rt, help, b"wp", Cause::Write);
 }
 
 // The surroundings of the system: a file that is there, and one that is not.

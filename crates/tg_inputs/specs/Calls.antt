@@ -1,11 +1,13 @@
 -- What the words of a command line ask for.
-use Rattle.std.specs.Prelude.{ℕ, ◌*◌, Bool, true, false, ◌&&◌, List, [], ◌∷◌, length, map, nat_lt, nat_le, bytes_eq, codes, if◌then◌else◌, Option, Some, None}
+use Rattle.std.specs.Prelude.{ℕ, ◌*◌, Bool, true, false, ◌&&◌, ◌||◌, List, [], ◌∷◌, length, map, nat_lt, nat_le, bytes_eq, codes, if◌then◌else◌, Option, Some, None}
 use Rattle.std.specs.Option.{option_map}
 use Rattle.tg_words.specs.Words.{with_digits}
 use Rattle.tg_inputs.specs.declared.words.Command.{Command}
 use Rattle.tg_inputs.specs.declared.words.Command.TheVariants as command
 use Rattle.tg_inputs.specs.declared.words.Call.{Call}
 use Rattle.tg_inputs.specs.declared.words.Call.TheVariants as call
+use Rattle.tg_inputs.specs.declared.words.Request.{Request}
+use Rattle.tg_inputs.specs.declared.words.Request.TheVariants as request
 
 -- a command with its words
 pub data CommandWords : Type 0 where
@@ -30,6 +32,12 @@ pub data CallWords : Type 0 where
   Files : CommandWords → List ℕ → List ℕ → CallWords
   Race : List ℕ → List ℕ → CallWords
 
+-- what is asked for, with its words
+pub data RequestWords : Type 0 where
+  Help : RequestWords
+  Version : RequestWords
+  Report : CallWords → RequestWords
+
 abbrev pub command_words : Command → CommandWords
 command_words command.Case = Case
 command_words command.Check = Check
@@ -49,6 +57,11 @@ call_words call.Input = Input
 call_words (call.File c graph) = File (command_words c) graph.now
 call_words (call.Files c graph second) = Files (command_words c) graph.now second.now
 call_words (call.Race graph script) = Race graph.now script.now
+
+abbrev pub request_words : Request → RequestWords
+request_words request.Help = Help
+request_words request.Version = Version
+request_words (request.Report c) = Report (call_words c)
 
 -- the command of a call: a graph and rules in one text where nothing else is said; a race has none
 abbrev pub command_of : CallWords → Option CommandWords
@@ -126,3 +139,15 @@ call_of (name ∷ graph ∷ second ∷ []) = texts_call name graph second
 call_of (name ∷ graph ∷ second ∷ third ∷ []) = two_words_call name graph second third
 call_of (name ∷ graph ∷ right ∷ x ∷ y ∷ []) = option_map (λ c. File c graph) (question name right x y)
 call_of (name ∷ graph ∷ right ∷ x ∷ y ∷ z ∷ more) = option_map (λ c. File c graph) (cut_command name right x y (z ∷ more))
+
+-- what a word asks for that stands alone: the forms of all command lines, or the version
+abbrev pub alone : List ℕ → Option RequestWords
+alone word =
+    if bytes_eq word (codes "--help") || bytes_eq word (codes "-h") then Some Help
+    else (if bytes_eq word (codes "--version") || bytes_eq word (codes "-V") then Some Version else None)
+
+-- what the words ask for: a word alone for what it says, and all others for the report of a call
+abbrev pub request_of : List (List ℕ) → Option RequestWords
+request_of [] = option_map Report (call_of [])
+request_of (word ∷ []) = alone word
+request_of (word ∷ second ∷ more) = option_map Report (call_of (word ∷ second ∷ more))

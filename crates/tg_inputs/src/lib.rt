@@ -15,4 +15,4 @@ pub use inputs::{
 pub use outcome::{Halt, Report};
 pub use parts::parts_of;
 pub use playing::AppliedRules;
-pub use words::{Call, Command, read_words};
+pub use words::{Call, Command, Request, read_words};

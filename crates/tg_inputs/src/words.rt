@@ -1,7 +1,7 @@
 //! What the command line asks for.
 ghost use Rattle.std.specs.Prelude.{◌≡◌, map};
 ghost use Rattle.std.specs.Option.{option_map};
-ghost use Rattle.tg_inputs.specs.Calls.{call_of, call_words, command_of, command_words, graph_command, text_command, texts_call, table_command, two_words_call, question, are_kept, cut_command, workers_of};
+ghost use Rattle.tg_inputs.specs.Calls.{call_of, call_words, command_of, command_words, graph_command, text_command, texts_call, table_command, two_words_call, question, are_kept, cut_command, workers_of, alone, request_of, request_words};
 ghost use Rattle.std.specs.Prelude.{◌≤◌, length};
 ghost use Rattle.tg_words.specs.Words.{is_digit, with_digits};
 
@@ -75,6 +75,17 @@ pub enum Call<'a> {
     Files(Command<'a>, &'a str, &'a str),
     /// The graph and a script stand in files, and the seats of the script race.
     Race(&'a str, &'a str),
+}
+
+/// What the words of a command line ask for.
+#[derive(Clone, Copy, PartialEq, Eq, Debug)]
+pub enum Request<'a> {
+    /// The forms of all command lines.
+    Help,
+    /// The name and the version of the program.
+    Version,
+    /// A report.
+    Report(Call<'a>),
 }
 
 impl<'a> Call<'a> {
@@ -247,8 +258,8 @@ fn two_words_call<'a>(
     }
 }
 
-/// The call that the words of a command line, its own name left out, ask for.
-pub fn read_words<'a>(words: &'a [&'a str]) -> Option<Call<'a>>
+// The call that words ask for.
+fn call_in<'a>(words: &'a [&'a str]) -> Option<Call<'a>>
     ensures { option_map call_words result ≡ call_of (map (λ word. word.now) words.now) }
 {
     match words {
@@ -261,5 +272,26 @@ pub fn read_words<'a>(words: &'a [&'a str]) -> Option<Call<'a>>
             Some(Call::File(cut_command(name, right, x, y, kept)?, graph))
         }
         _ => None,
+    }
+}
+
+// What a word asks for that stands alone.
+fn alone(word: &str) -> Option<Request<'static>>
+    ensures { option_map request_words result ≡ alone word.now }
+{
+    match word {
+        "--help" | "-h" => Some(Request::Help),
+        "--version" | "-V" => Some(Request::Version),
+        _ => None,
+    }
+}
+
+/// What the words of a command line, its own name left out, ask for.
+pub fn read_words<'a>(words: &'a [&'a str]) -> Option<Request<'a>>
+    ensures { option_map request_words result ≡ request_of (map (λ word. word.now) words.now) }
+{
+    match words {
+        [word] => alone(word),
+        _ => Some(Request::Report(call_in(words)?)),
     }
 }

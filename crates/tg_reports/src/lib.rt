@@ -11,5 +11,5 @@ mod table_lines;
 mod who_lines;
 
 pub use reporting::{report, report_of_texts};
-pub use tg_inputs::{Call, Command, Report, read_words};
+pub use tg_inputs::{Call, Command, Report, Request, read_words};
 pub use tg_plays::{LONGEST_LINE, Player, make_room_in_race, make_room_in_run, race};

@@ -1,6 +1,6 @@
 // Calls, and words that are none.
-use crate::test_words::{calls_for, no_call};
-use tg_reports::{Call, Command};
+use crate::test_words::{asks_for, calls_for, no_call};
+use tg_reports::{Call, Command, Request};
 
 #[test]
 fn calls(rt: HostRuntime) {
@@ -16,6 +16,19 @@ fn calls(rt: HostRuntime) {
     calls_for(&rt, &["share", "G", "r", "a", "c"], share);
     let derive = Call::File(Command::Derive { rights, x, y }, "G");
     calls_for(&rt, &["derive", "G", "r", "a", "c"], derive);
+}
+
+#[test]
+fn words_alone(rt: HostRuntime) {
+    asks_for(&rt, &["--help"], Request::Help);
+    asks_for(&rt, &["-h"], Request::Help);
+    asks_for(&rt, &["--version"], Request::Version);
+    asks_for(&rt, &["-V"], Request::Version);
+    let help = Call::File(Command::Check, "--help");
+    calls_for(&rt, &["check", "--help"], help);
+    no_call(&rt, &["-v"]);
+    no_call(&rt, &["--help", "check"]);
+    no_call(&rt, &["-h", "-h"]);
 }
 
 #[test]

@@ -1,10 +1,15 @@
 //! What the tests of command lines share.
 use std::process::Abort;
-use tg_reports::{Call, read_words};
+use tg_reports::{Call, Request, read_words};
 
 /// The words ask for this call.
 pub(crate) fn calls_for(rt: &impl Abort, words: &[&str], call: Call<'_>) {
-    assert!(rt; read_words(words) == Some(call));
+    asks_for(rt, words, Request::Report(call));
+}
+
+/// The words ask for this.
+pub(crate) fn asks_for(rt: &impl Abort, words: &[&str], request: Request<'_>) {
+    assert!(rt; read_words(words) == Some(request));
 }
 
 /// The words are no call.

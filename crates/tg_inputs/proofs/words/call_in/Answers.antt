@@ -1,7 +1,7 @@
 use Rattle.std.proofs.Common.{◌≡◌, ℕ, Bor, Option, None, List, [], ◌∷◌, map, length, get_or, refl, sym, ap, ◌∙◌, arith}
 use Rattle.std.specs.Option.{option_map}
 use Rattle.tg_inputs.specs.Calls.{CommandWords, File, call_of, call_words, command_words, graph_command, question}
-use Rattle.tg_inputs.proofs.words.read_words.Goals as goal
+use Rattle.tg_inputs.proofs.words.call_in.Goals as goal
 
 -- what two words ask for
 two_words : {A : Type 0} (word : A → List ℕ) (other : A) (words : List A) → length words ≡ 2 → call_of (map word words) ≡ option_map (λ c. File c (word (get_or words 1 other))) (graph_command (word (get_or words 0 other)))
