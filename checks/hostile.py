@@ -53,6 +53,7 @@ KINDS = [
     words.bad_line_cases,
     words.untold_word_cases,
     words.question_cases,
+    words.own_text_cases,
     words.option_path_cases,
     words.long_path_cases,
     words.many_word_cases,

@@ -21,7 +21,7 @@ _officer() {
     local IFS=$' \t\n' word=${COMP_WORDS[COMP_CWORD]-} command=${COMP_WORDS[1]-} graph=${COMP_WORDS[2]-}
     COMPREPLY=()
     case $COMP_CWORD:$command in
-        1:*) _officer_words 'check apply islands share derive table who reach verify cut run race' "$word" ;;
+        1:*) _officer_words 'check apply islands share derive table who reach verify cut run race --help --version' "$word" ;;
         2:check | 2:islands | 2:share | 2:derive | 2:table | 2:who | 2:reach | 2:cut) _officer_files "$word" ;;
         [23]:apply | [23]:run | [23]:race | [23]:verify) _officer_files "$word" ;;
         3:share | 3:derive | 3:table | 3:who | 3:cut) _officer_words 't g r w e a d' "$word" ;;

@@ -4,12 +4,12 @@ import re
 import subprocess
 from itertools import zip_longest
 
+from model.manual import HELP_WORDS, VERSION_WORDS, complaint_for, help_fault, version
 from model.races import fault_of
 from model.reports import WITH_SECOND_FILE, is_call, race_refusal, report_of
 from model.texts import read_graph, read_script
 
 LONGEST_RUN = 20
-BAD_WORDS = (b"", b"officer: bad command line\n", 2)
 # In a report of `verify`: the right, the x and the y of a line that fails, and its derivation.
 DERIVED = re.compile(rb"[0-9]+ fails (\w) (\w+) (\w+)\n(#.*\n(?:[tgc][a-z]+ .*\n)*)")
 
@@ -186,7 +186,7 @@ def table_case(program, make):
     right, workers = make.spoil.word(right, 0.05), make.workers()
     if workers and not is_call([b"table", b"file", b"r", *workers]):
         told = program.report(b"table", b"", further=[right, *workers])
-        require_same("workers", told, BAD_WORDS)
+        require_same("workers", told, bad_line([b"table", right, *workers]))
         return
     graph = make.spoil.text(make.graph_text(), 0.1)
     text = require_report(program, b"table", [graph], [right, *workers])
@@ -288,10 +288,17 @@ def race_case(program, make):
     require_race(program, make.spoil.one_of(make.graph_and_script(seats), 0.1))
 
 
+def bad_line(words):
+    """The answer to words that have none of the forms."""
+    return b"", complaint_for(words), 2
+
+
 def answer_for(words, path, graph):
     """The answer to words where a file with a graph is there, and no other."""
+    if len(words) == 1 and words[0] in VERSION_WORDS:
+        return version(), b"", 0
     if not is_call(words):
-        return BAD_WORDS
+        return bad_line(words)
     if words and words[1] != path:
         return b"", b"officer: cannot read the graph\n", 3
     if words and words[0] in WITH_SECOND_FILE and words[2] != path:
@@ -309,7 +316,11 @@ def words_case(program, make):
     path = program.write("graph", graph)
     words = make.words([path, os.fsencode(program.folder) + b"/missing"])
     what = b" ".join(words).decode(errors="replace")
-    require_same(what, program.answer(words), answer_for(words, path, graph))
+    told = program.answer(words)
+    if len(words) == 1 and words[0] in HELP_WORDS:
+        require_same(what, (help_fault(told[0]), *told[1:]), (None, b"", 0))
+        return
+    require_same(what, told, answer_for(words, path, graph))
 
 
 def limits_case(program, make):

@@ -233,7 +233,8 @@ class Maker:
 
     def words(self, files):
         """The words of a command line, good or bad, with one of the files or several."""
-        pool = "r t a b --workers 4 16 Check --help --why --keep".split() + COMMANDS + ["", "\xe9"]
+        pool = "r t a b --workers 4 16 Check --help -V -h --version sh --why --keep".split()
+        pool += [*COMMANDS, "", "\xe9"]
         pool = [word.encode() for word in pool] + [b"\xff", b"\xe2\x82"] + files * 3
         words = self.form(files[0] if self.chance.random() < 0.8 else self.chance.choice(files))
         way = self.chance.randrange(6)

@@ -3,7 +3,7 @@ import os
 from itertools import product
 
 from hostile_cases.commands import COMMANDS, all_loads, second_name, title_of, words_for
-from hostile_cases.runs import Case, CutOff, Hindrance, Says, Whole
+from hostile_cases.runs import BadLine, Case, CutOff, Hindrance, Says, Whole
 
 TAKING_NOTHING = {
     "a closed output": "closed",
@@ -70,4 +70,5 @@ def silent_cases(files):
         words = words_for(command, graph, files.path(second_name(command)))
         full = Hindrance(given=hindrance.given, output="/dev/full", complaint=hindrance.complaint)
         yield Case(f"{name} standard output is full", words, [Says("write")], full)
-        yield Case(f"{name} a word too many", [*words, b"x"], [Says("words")], hindrance)
+        words = [*words, b"x"]
+        yield Case(f"{name} a word too many", words, [BadLine(words)], hindrance)

@@ -8,6 +8,7 @@ import threading
 import time
 from dataclasses import dataclass, field, fields
 
+from model.manual import complaint_for, help_fault
 from model.races import fault_of
 
 WIDE_STACK = resource.RLIM_INFINITY
@@ -22,7 +23,6 @@ MESSAGES = {
     "too large": (b"officer: input too large\n", 3),
     "memory": (b"officer: no memory\n", 3),
     "write": (b"officer: cannot write\n", 3),
-    "words": (b"officer: bad command line\n", 2),
 }
 
 
@@ -69,6 +69,34 @@ class Says:
     def __str__(self):
         line, status = MESSAGES[self.cause]
         return f"{line.decode().strip()!r}, {status}"
+
+
+@dataclass(frozen=True)
+class BadLine:
+    """The message for words that have none of the forms with its status, and no byte of a report."""
+
+    words: list
+
+    def fits(self, ran):
+        """Whether a run ended so."""
+        is_told = ran.complaint in (None, complaint_for(self.words))
+        return is_told and ran.status == 2 and not ran.output
+
+    def __str__(self):
+        return f"{complaint_for(self.words).decode()!r}, 2"
+
+
+@dataclass(frozen=True)
+class Helps:
+    """What the program says of its command lines, status 0, and no message."""
+
+    def fits(self, ran):
+        """Whether a run ended so."""
+        is_whole = ran.output is None or help_fault(ran.output) is None
+        return is_whole and ran.status == 0 and not ran.complaint
+
+    def __str__(self):
+        return "a text with the forms, limits and statuses of the manual page, 0"
 
 
 @dataclass(frozen=True)
@@ -175,12 +203,13 @@ class Hindrance:
 
 @dataclass(frozen=True)
 class Case:
-    """The words of a run, what hinders it, and the endings that are allowed."""
+    """The words of a run, what hinders it, its folder, and the endings that are allowed."""
 
     title: str
     words: list
     allowed: list
     hindrance: Hindrance = field(default_factory=Hindrance)
+    folder: str = None
 
 
 class Streams:
@@ -289,6 +318,7 @@ def play(program, case):
     try:
         with subprocess.Popen(
             [program, *case.words],
+            cwd=case.folder,
             stdin=streams.stdin,
             stdout=streams.stdout,
             stderr=streams.stderr,

@@ -1,9 +1,12 @@
 """Command lines that are good, bad or refused."""
+import os
 import shlex
 from itertools import product
 
 from hostile_cases.commands import COMMANDS, GRAPH, MIB, QUESTION, ending_for, title_of, words_for
-from hostile_cases.runs import WIDE_STACK, Case, Hindrance, Says
+from hostile_cases.outputs import TAKING_NOTHING
+from hostile_cases.runs import WIDE_STACK, BadLine, Case, CutOff, Helps, Hindrance, Says, Whole
+from model.manual import HELP_WORDS, VERSION_WORDS, version
 
 MOST_WORD_BYTES = 131_071
 LONG_WORD = b"a" * MOST_WORD_BYTES
@@ -12,7 +15,7 @@ BAD_LINES = """
 fly|fly G|Check G|CHECK G|check|check G G|islands|islands G G|apply|apply G|apply G G G|run G
 run G G G|race|race G|race G G G|share G r a|share G r a c c|share r a c|derive G r a
 derive G r a c c|table G|table|table G r 4|table G r --workers|table G r --workers 4 4
-table G r --worker 4|table G r -workers 4|table G --workers 4 r|--help|G|table G r --workers 00004
+table G r --worker 4|table G r -workers 4|table G --workers 4 r|G|table G r --workers 00004
 table G r --workers 12345|table G r --workers -1|table G r --workers +1|table G r --workers x
 table G r --workers 4x|table G r --workers 0x4|table G r --workers 1.0|table G r --workers \u0664
 table G r --workers ''|table G r --workers ' 4'|'check ' G|''|'' ''|'' check G|check G ''
@@ -26,6 +29,11 @@ cut G --keep a b r a c|cut G r a c --keep a b --keep|cut G r a c --keep a b --ke
 cut G r a c --keep a b --kept a b|cut G r a c --keep a b a b --keep|cut G r a c --ke\u0435p a b
 cut G r a c --workers 4|cut G r a c --why|share G r a c --keep a b|derive G r a c --keep a b
 table G r --keep a b|verify G G --keep a b
+--help G|--help --help|-h -h|-h check|--help ''|'' --help|--Help|--HELP|-help|--hel|--helps|--help=|-H
+--version G|-V -V|-V check|--versio|--versions|-version|-v|-hV|-|--|help|version|check -h G
+s|sh|sha|shar|shark G r a c|shares|sharr|S|share\u0301|re|rea|reaches|reach\u0301 G a|r|ra|ru|rac|races|rune|runs
+c|ch|chek G|checks|cu|cuts|cat G|a|ap|app|ape G G|ally|i|is|island G|islandss|d|de|dare|t|ta|tables|tab
+w|wh|whose|whoso|v|ve|verified G G|vary|x|xcheck|\u0441heck G|\u00e9|1|check\u0020|0 check
 """
 # What stands behind the graph of a question, good or bad.
 QUESTIONS = """
@@ -69,10 +77,10 @@ def bad_line_cases(files):
     graph = files.path("graph")
     for line, words in lines_in(BAD_LINES):
         words = [graph if word == b"G" else word for word in words]
-        yield Case(f"words: {line}", words, [Says("words")])
+        yield Case(f"words: {line}", words, [BadLine(words)])
     for count in 65, 1000:
         words = [b"cut", graph, *QUESTION, *[b"--keep", b"a", b"b"] * count]
-        yield Case(f"words: cut, and {count} edges kept", words, [Says("words")])
+        yield Case(f"words: cut, and {count} edges kept", words, [BadLine(words)])
 
 
 def untold_word_cases(files):
@@ -83,7 +91,7 @@ def untold_word_cases(files):
         for place, word in enumerate(words):
             spoiled = words[:place] + [word + spoil] + words[place + 1 :]
             title = f"words: {title_of(command)}, and {spoil.hex()} behind word {place + 1}"
-            yield Case(title, spoiled, [Says("words")])
+            yield Case(title, spoiled, [BadLine(spoiled)])
 
 
 def question_cases(files):
@@ -108,8 +116,30 @@ def question_cases(files):
         yield Case(title, [command, graph, *further], [ending])
 
 
+def own_text_cases(files):
+    """What the program says of itself, to outputs that take it or not."""
+    endings = {word: (Helps(), None) for word in HELP_WORDS}
+    endings |= {word: (Whole(version(), 0), version()) for word in VERSION_WORDS}
+    for word, (ending, text) in endings.items():
+        name = f"words: {word.decode()}"
+        yield Case(name, [word], [ending])
+        closed = Hindrance(given="closed", complaint="closed")
+        yield Case(f"{name}, and all but the output is closed", [word], [ending], closed)
+        for title, output in TAKING_NOTHING.items():
+            yield Case(f"{name} to {title}", [word], [Says("write")], Hindrance(output=output))
+        sized = os.fsdecode(files.text(f"sized_{word.decode()}"))
+        hindrance = Hindrance(output=sized, file_size=3)
+        yield Case(f"{name} to a file of 3 bytes", [word], [CutOff(text)], hindrance)
+
+
 def option_path_cases(files):
     """An option that stands where a file is named is that file's name."""
+    for word in HELP_WORDS + VERSION_WORDS:
+        words, name = [b"check", word], word.decode()
+        yield Case(f"words: check, and no file {name}", words, [Says("graph")], folder="/")
+        files.text(name, GRAPH)
+        ending = ending_for(b"check", GRAPH)
+        yield Case(f"words: check, and a file {name}", words, [ending], folder=files.folder)
     graph = files.path("graph")
     causes = {(graph, b"--why"): "second file", (b"--why", graph): "graph"}
     for paths, cause in causes.items():
@@ -128,11 +158,13 @@ def long_path_cases(files):
 def many_word_cases(_):
     """More words than any command has, and as many long ones as the system hands over."""
     for count in (6, 256, 10_000):
-        yield Case(f"words: {count} times check", [b"check"] * count, [Says("words")])
+        words = [b"check"] * count
+        yield Case(f"words: {count} times check", words, [BadLine(words)])
     # (that is 6 MiB, and less where the stack is limited)
     for count, more in product((1, 5, 15, 46), (6, 8, 16, None)):
         memory = count * MOST_WORD_BYTES + more * MIB if more else None
         title = f"words: {count} of 131,071 bytes" + (f", {more} MiB of memory" if more else "")
-        allowed = [Says("words"), Says("memory")] if more else [Says("words")]
+        words = [LONG_WORD] * count
+        allowed = [BadLine(words), Says("memory")] if more else [BadLine(words)]
         hindrance = Hindrance(stack=WIDE_STACK, memory=memory)
-        yield Case(title, [LONG_WORD] * count, allowed, hindrance)
+        yield Case(title, words, allowed, hindrance)

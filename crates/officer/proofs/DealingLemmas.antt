@@ -7,7 +7,7 @@ use Rattle.officer.specs.declared.fetch.FetchFault.{FetchFault}
 use Rattle.officer.specs.declared.surroundings.WordsFault.{WordsFault}
 use Rattle.tg_inputs.specs.Calls.{CallWords, CommandWords, command_of, RequestWords, request_of}
 use Rattle.tg_inputs.specs.Readings.{ReportText}
-use Rattle.officer.specs.Dealings.{Dealing, Words, File, Adds, Deals, text_or, and_text, GoesOn, ReadsBoth, Reads, IsReportOf, Prints, AnswersCall, AnswersRequest, AnswersForm, AnswersWords, IsRun}
+use Rattle.officer.specs.Dealings.{Dealing, Words, File, Adds, Deals, text_or, and_text, GoesOn, ReadsBoth, Reads, IsReportOf, report_with, Prints, AnswersCall, AnswersRequest, AnswersForm, AnswersWords, IsRun}
 
 -- dealings and then more
 adds_more : (before mid after : Option (List Dealing)) (some more : List Dealing) → Adds before mid some → Adds mid after more → Adds before after (some ++ more)
@@ -48,6 +48,10 @@ call_answered before mid after call texts first second report end d e is p = rec
     answers = inl (record { report = report; is = is; prints = p.fact });
   };
 }
+
+-- the same bytes were printed
+pub bytes_printed : (before after : Option (List Dealing)) (bytes text : List ℕ) (status : ℕ) (end : Result ℕ Cause) → bytes ≡ text → Deals before after (Prints (report_with bytes status) end) → Deals before after (Prints (report_with text status) end)
+bytes_printed before after bytes text status end e d = subst (λ (b : List ℕ). Deals before after (Prints (report_with b status) end)) e d
 
 -- words are given, and what they ask for is answered
 pub words_answered : (before mid after : Option (List Dealing)) (given : Result (List (List ℕ)) WordsFault) (words : List (List ℕ)) (request : RequestWords) (end : Result ℕ Cause) → Adds before mid (Words given ∷ []) → given ≡ Ok words → request_of words ≡ Some request → Deals mid after (AnswersRequest request end) → Deals before after (IsRun end)

@@ -1,2 +1,3 @@
 pub mod DealingLemmas
 pub mod RunLaws
+pub mod FormLaws

@@ -8,7 +8,7 @@ use Rattle.officer.specs.declared.fetch.FetchFault.{FetchFault}
 use Rattle.officer.specs.declared.surroundings.WordsFault.{WordsFault}
 use Rattle.tg_inputs.specs.Calls.{CallWords, Input as input, File as file, Files as files, Race as race, command_of, RequestWords, Help as help, Version as version, Report as report_on, request_of}
 use Rattle.tg_inputs.specs.Readings.{ReportText}
-use Rattle.officer.specs.declared.TheConstants.{HELP, VERSION}
+use Rattle.officer.specs.declared.help.TheConstants.{HELP, VERSION}
 use Rattle.officer.specs.Dealings.{Dealing, Words, Input, File, Print, text_or, and_text, GoesOn, Reads, told, end_of_print, Prints, Answers, AnswersRequest, AnswersForm, AnswersWords}
 use Rattle.officer.specs.RunLaws.{texts_given, texts_read, IsAnswer, HasPrinted, RunsPrintReports}
 

@@ -7,7 +7,7 @@ use Rattle.officer.specs.declared.call.Texts.{Texts}
 use Rattle.officer.specs.declared.deliver.DeliverFault.{DeliverFault}
 use Rattle.officer.specs.declared.fetch.FetchFault.{FetchFault}
 use Rattle.officer.specs.declared.surroundings.WordsFault.{WordsFault}
-use Rattle.officer.specs.declared.TheConstants.{HELP, VERSION}
+use Rattle.officer.specs.declared.help.TheConstants.{HELP, VERSION}
 use Rattle.officer.specs.Faults.{cause_of_fetch, cause_of_words}
 use Rattle.officer.specs.Forms.{nearest_form}
 use Rattle.tg_inputs.specs.Readings.{ReportText}

@@ -1,6 +1,6 @@
 -- Which form of a command line is nearest to words that have none.
-use Rattle.std.specs.Prelude.{ℕ, suc, Bool, ◌&&◌, ◌==◌, nat_lt, nat_le, List, [], ◌∷◌, find, codes, if◌then◌else◌, Option, None}
-use Rattle.std.specs.List.{list_all}
+use Rattle.std.specs.Prelude.{ℕ, Bool, ◌&&◌, ◌==◌, nat_lt, nat_le, List, [], ◌∷◌, length, find, take_while, codes, Option, None}
+use Rattle.std.specs.List.{list_all, zip}
 use Rattle.officer.specs.declared.forms.Form.{Form}
 use Rattle.officer.specs.declared.forms.Form.TheVariants.{Check, Apply, Islands, Share, Derive, Table, Who, Reach, Verify, Cut, Run, Race}
 
@@ -25,15 +25,25 @@ forms = Check ∷ Apply ∷ Islands ∷ Share ∷ Derive ∷ Table ∷ Who ∷ R
 
 -- how many bytes two words have in common at their beginnings
 abbrev pub common : List ℕ → List ℕ → ℕ
-common [] other = 0
-common (byte ∷ word) [] = 0
-common (byte ∷ word) (its ∷ other) = if byte == its then suc (common word other) else 0
+common word other = length (take_while (λ pair. pair.0 == pair.1) (zip word other))
 
--- the command of the form has a beginning in common with the word, and no other has a longer one
-abbrev pub is_nearest : List ℕ → Form → Bool
-is_nearest word form = nat_lt 0 (common word (command_of form)) && list_all (λ other. nat_le (common word (command_of other)) (common word (command_of form))) forms
+-- how many a word and the command of a form have: so long the word begins like the form
+abbrev pub begins : List ℕ → Form → ℕ
+begins word form = common word (command_of form)
 
--- the form that is nearest to the first word: the first of those
+-- the word begins like none of the forms for longer
+abbrev pub is_longest : List Form → List ℕ → ℕ → Bool
+is_longest forms word size = list_all (λ form. nat_le (begins word form) size) forms
+
+-- the word begins like the form, and like no other of these forms for longer
+abbrev pub is_nearest : List Form → List ℕ → Form → Bool
+is_nearest forms word form = nat_lt 0 (begins word form) && is_longest forms word (begins word form)
+
+-- the first of the forms of which that holds
+abbrev pub nearest_of : List Form → List ℕ → Option Form
+nearest_of forms word = find (is_nearest forms word) forms
+
+-- the form that is nearest to words, by the first of them
 abbrev pub nearest_form : List (List ℕ) → Option Form
 nearest_form [] = None
-nearest_form (word ∷ more) = find (is_nearest word) forms
+nearest_form (word ∷ more) = nearest_of forms word

@@ -2,7 +2,7 @@
 use Rattle.std.specs.Prelude.{◌≡◌, ℕ, List, [], ◌∷◌, ◌++◌, Some, Ok}
 use Rattle.tg_inputs.specs.Calls.{CallWords, Input as input, File as file, Files as files, Race as race, command_of, RequestWords, Help as help, Version as version, Report as report_on, request_of}
 use Rattle.tg_inputs.specs.Readings.{ReportText}
-use Rattle.officer.specs.declared.TheConstants.{HELP, VERSION}
+use Rattle.officer.specs.declared.help.TheConstants.{HELP, VERSION}
 use Rattle.officer.specs.Dealings.{Dealing, Words, Input, File, Print, IsReportOf, IsRun, told}
 
 -- the texts of a call are read, the graph first, and are there

@@ -1,6 +1,6 @@
 //! The forms of command lines that begin with a command, and which of them is nearest to words that have none.
 ghost use Rattle.std.specs.Prelude.{◌≡◌, map};
-ghost use Rattle.officer.specs.Forms.{command_of, common, is_nearest, nearest_form};
+ghost use Rattle.officer.specs.Forms.{begins, command_of, common, is_longest, is_nearest, nearest_form, nearest_of};
 
 /// The form of the command lines of a command.
 #[derive(Clone, Copy, PartialEq, Eq, Debug)]
@@ -67,15 +67,36 @@ fn common(word: &[u8], other: &[u8]) -> usize
         .count()
 }
 
-// Whether the command of a form has a beginning in common with a word, and no other a longer one.
-fn is_nearest(word: &[u8], form: Form) -> bool
-    ensures { result ≡ is_nearest word.now form }
+// How many bytes a word and the command of a form have in common at their beginnings.
+fn begins(word: &[u8], form: Form) -> usize
+    ensures { result ≡ begins word.now form }
 {
-    let length = common(word, form.command().as_bytes());
-    length > 0
-        && FORMS
-            .iter()
-            .all(|other| common(word, other.command().as_bytes()) <= length)
+    common(word, form.command().as_bytes())
+}
+
+// Whether a word begins like none of these forms for longer.
+fn is_longest(forms: &[Form], word: &[u8], length: usize) -> bool
+    ensures { result ≡ is_longest forms.now word.now length }
+{
+    forms.iter().all(|form| begins(word, *form) <= length)
+}
+
+// Whether a word begins like the form, and like no other of these forms for longer.
+fn is_nearest(forms: &[Form], word: &[u8], form: Form) -> bool
+    ensures { result ≡ is_nearest forms.now word.now form }
+{
+    let length = begins(word, form);
+    length > 0 && is_longest(forms, word, length)
+}
+
+// The first of these forms that is nearest to a word.
+fn nearest_of(forms: &[Form], word: &[u8]) -> Option<Form>
+    ensures { result ≡ nearest_of forms.now word.now }
+{
+    forms
+        .iter()
+        .copied()
+        .find(|form| is_nearest(forms, word, *form))
 }
 
 /// The form that is nearest to words: that of the command which has the longest beginning in common with the
@@ -83,6 +104,5 @@ fn is_nearest(word: &[u8], form: Form) -> bool
 pub fn nearest_form(words: &[&str]) -> Option<Form>
     ensures { result ≡ nearest_form (map (λ word. word.now) words.now) }
 {
-    let word = words.first()?.as_bytes();
-    FORMS.iter().copied().find(|form| is_nearest(word, *form))
+    nearest_of(&FORMS, words.first()?.as_bytes())
 }

@@ -258,7 +258,7 @@ fn fault_lines(rt: HostRuntime) {
 }
 
 // This form is the nearest to the words, and so it is told.
-fn is_near(rt: &impl Abort, words: &[&str], form: Option<Form>, line: &str) {
+pub(crate) fn is_near(rt: &impl Abort, words: &[&str], form: Option<Form>, line: &str) {
     let nearest = nearest_form(words);
     assert!(rt; nearest == form);
     assert!(rt; form_line(Cause::Words(nearest)) == Some(line));

@@ -1,7 +1,7 @@
 // What takes no memory. Each test passes when every request for memory from some one on is refused,
 // which `make refusals` tries.
-use crate::test_words::{calls_for, no_call};
-use tg_reports::{Call, Command};
+use crate::test_words::{asks_for, calls_for, no_call};
+use tg_reports::{Call, Command, Request};
 
 #[test]
 fn words_read(rt: HostRuntime) {
@@ -25,4 +25,11 @@ fn words_read(rt: HostRuntime) {
     let words = ["cut", "g", "r", "a", "c", "--keep", "a", "b"];
     calls_for(&rt, &words, cut);
     no_call(&rt, &["fly", "g"]);
+}
+
+#[test]
+fn words_alone_read(rt: HostRuntime) {
+    asks_for(&rt, &["--help"], Request::Help);
+    asks_for(&rt, &["-V"], Request::Version);
+    no_call(&rt, &["check"]);
 }
