@@ -26,11 +26,11 @@ flow-bound edges x units s flow closed has =
     let even : leaving s edges ≡ arriving s edges + units = flow s closed ∙ ap (λ b. arriving s edges + weight b units) has in
     omega (arith, even, count_by-le-length (leaves s) edges)
 
--- and so one more unit is counted without end
-pub one_more_counts : (first now next : List FlowEdge) (x units : ℕ) → (s : ℕ → Bool) × IsClosed s first × (s x ≡ true) → SameBut first now → SameBut now next → IsFlow next x (units + 1) → units + 1 ≤ length now
-one_more_counts first now next x units (s, closed, has) before after flow =
+-- nor than there were before
+pub units_count : (first now next : List FlowEdge) (x units : ℕ) → (s : ℕ → Bool) × IsClosed s first × (s x ≡ true) → SameBut first now → SameBut now next → IsFlow next x units → units ≤ length now
+units_count first now next x units (s, closed, has) before after flow =
     let last = closed-on first next (same-then first now next before after) s closed in
-    omega (arith, flow-bound next x (units + 1) s flow last has, after.len)
+    omega (arith, flow-bound next x units s flow last has, after.len)
 
 -- ---- over kept edges alone
 -- x was met

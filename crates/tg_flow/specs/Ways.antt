@@ -1,5 +1,5 @@
 -- The steps by which a search comes from the end.
-use Rattle.std.specs.Prelude.{◌≡◌, ◌+◌, ◌≤◌, ℕ, Bool, List, slice_get, slice_index_or, Option, Some, None, is_some, option_map}
+use Rattle.std.specs.Prelude.{◌≡◌, ◌+◌, ◌<◌, ℕ, zero, suc, Bool, List, slice_get, slice_index_or, Option, Some, None, is_some, option_map}
 use Rattle.tg_flow.specs.declared.edges.FlowEdge.{FlowEdge}
 use Rattle.tg_flow.specs.declared.edges.Passage.{Passage}
 use Rattle.tg_flow.specs.declared.edges.Passage.TheVariants.{Shut, On, Out}
@@ -41,6 +41,26 @@ pub record IsStep (edges : List FlowEdge) (steps : Steps) (v : ℕ) (step : Step
 abbrev pub AreWays : List FlowEdge → Steps → Type 0
 AreWays edges steps = (v : ℕ) (step : Step) → step_at steps v ≡ Some step → IsStep edges steps v step
 
--- those of all that are no farther than so many steps from the end
-abbrev pub HaveStepsUpTo : ℕ → List FlowEdge → Steps → Type 0
-HaveStepsUpTo most edges steps = (v : ℕ) (step : Step) → step_at steps v ≡ Some step → step.level ≤ most → IsStep edges steps v step
+-- By the passage over which a unit goes from v to w: it comes out at the end, or w is nearer, and there it goes on so
+abbrev pub GoesBy : (ℕ → Type 0) → Steps → ℕ → ℕ → Passage → Type 0
+GoesBy rest steps v w Shut = ⊥
+GoesBy rest steps v w (Out after) = Unit {0}
+GoesBy rest steps v w (On after) = (level_at steps w < level_at steps v) × rest w
+
+-- the step of v leads from there over an edge
+pub record IsWay (rest : ℕ → Type 0) (edges : List FlowEdge) (steps : Steps) (v : ℕ) : Type 0 where
+  pub step : Step
+  pub there : step_at steps v ≡ Some step
+  pub e : FlowEdge
+  pub edge : slice_get edges step.number ≡ Some e
+  pub stands : at_side e step.side ≡ v
+  pub goes : GoesBy rest steps v (at_side e (opposite step.side)) (passage_at e step.side)
+
+-- a unit comes by the steps from v to the end, over no more edges than so many
+abbrev pub HasWayOf : ℕ → List FlowEdge → Steps → ℕ → Type 0
+HasWayOf zero edges steps v = ⊥
+HasWayOf (suc n) edges steps v = IsWay (HasWayOf n edges steps) edges steps v
+
+-- over however many
+abbrev pub HasWay : List FlowEdge → Steps → ℕ → Type 0
+HasWay edges steps v = (n : ℕ) × HasWayOf n edges steps v

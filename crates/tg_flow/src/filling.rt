@@ -1,9 +1,10 @@
 //! As many units as can go from one position to the end.
-ghost use Rattle.std.specs.Prelude.{◌≡◌, ◌<◌, ℕ, Bool, true, Some, None, IfOk, OnOk, MatchOption, slice_get, slice_set};
+ghost use Rattle.std.specs.Prelude.{◌≡◌, ◌<◌, ℕ, Bool, true, Some, None, IfOk, OnOk, MatchBool, MatchOption, slice_get, slice_set};
 ghost use Rattle.tg_flow.specs.declared.edges.FlowEdge.{FlowEdge};
 ghost use Rattle.tg_flow.specs.Edges.{with_flow, at_rest};
 ghost use Rattle.tg_flow.specs.Flows.{IsClosed, IsFlow, SameBut};
 ghost use Rattle.tg_flow.specs.Searches.{to_end, IsOver};
+ghost use Rattle.tg_flow.specs.Sending.{Sends, SendsMany};
 ghost use Rattle.tg_flow.specs.Filling.{IsEndless, IsFull, Fills};
 
 use crate::courses::Course;
@@ -55,6 +56,42 @@ impl Network {
         Ok(ways)
     }
 
+    // Sends one more unit from x by the levels that a search has found, if one can go so. It says whether one has.
+    fn send_another(
+        &mut self,
+        ways: &mut Ways,
+        path: &mut Vec<u16>,
+        x: usize,
+        y: usize,
+    ) -> Result<bool, AllocError>
+        ensures { IfOk result (λ sent. MatchBool sent
+            (Sends x self.old self.new)
+            (self.new ≡ self.old)) }
+    {
+        self.find_way(ways, path, x, y)?;
+        if !self.has_way(ways, x) {
+            return Ok(false);
+        }
+        self.send(ways, x);
+        Ok(true)
+    }
+
+    // Sends units from x by the levels that a search has found, until no more can go so. It answers how many.
+    fn send_more(&mut self, ways: &mut Ways, x: usize, y: usize) -> Result<usize, AllocError>
+        ensures { IfOk result (λ more. SendsMany x more self.old self.new) }
+    {
+        ways.begin_all();
+        // No path is longer than the level of x.
+        let mut path = Vec::with_capacity(self.allocator(), usize::from(ways.level(x)))?;
+        let most = self.len();
+        for more in 0..most {
+            if !self.send_another(ways, &mut path, x, y)? {
+                return Ok(more);
+            }
+        }
+        Ok(most)
+    }
+
     // Sends units from x until no more can go. It answers how many.
     fn send_all(&mut self, x: usize, y: usize) -> Result<usize, AllocError>
         requires free { (s : ℕ → Bool) × IsClosed s self.old × (s x ≡ true) }
@@ -68,6 +105,8 @@ impl Network {
         while ways.has_met(x) {
             self.send(&ways, x);
             units += 1;
+            let more = self.send_more(&mut ways, x, y)?;
+            units += more;
             // Its memory is let go of first, so that there is that of one search at a time.
             drop(ways);
             ways = self.search_to_end(false, x, y)?;
@@ -79,8 +118,10 @@ impl Network {
     /// can go, because kept edges alone lead from x to the end. What the edges carried before is taken back
     /// first.
     ///
-    /// Each unit takes one search, of at most a pass over the edges, and there are a few passes more. The
-    /// searches look first at the edges into y; it decides no answer. One takes 10 bytes a position.
+    /// Units go in phases: one search, of at most a pass over the edges, finds how far each position is from the
+    /// end, and then units go by ways of that length until none is left, each edge being looked at again at most
+    /// twice from a side. The searches look first at the edges into y; it decides no answer, and neither does how
+    /// many units go in a phase. One takes 12 bytes a position.
     ///
     /// The one error is want of memory: some units may have gone then, which the next call takes back.
     pub fn fill(&mut self, x: usize, y: usize) -> Result<Option<usize>, AllocError>

@@ -13,6 +13,7 @@ mod packed_steps;
 mod searches;
 mod sending;
 mod sides;
+mod walks;
 mod ways;
 
 pub use edges::{Flow, FlowEdge, Passage, Role, Side};

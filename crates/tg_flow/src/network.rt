@@ -4,7 +4,7 @@ ghost use Rattle.tg_flow.specs.declared.edges.FlowEdge.{FlowEdge};
 ghost use Rattle.tg_flow.specs.Edges.{with_flow, flow_at_first};
 
 use crate::edges::{Flow, FlowEdge, Role};
-use crate::listing::Listing;
+use crate::listing::{Entry, Listing};
 pub use crate::packed::MOST_POSITIONS;
 use crate::packed::PackedEdge;
 use std::alloc::{AllocError, Global};
@@ -125,6 +125,14 @@ impl Network {
         Ok(())
     }
 
+    /// The position that the edge with a number leads to.
+    pub(crate) fn target(&self, number: usize) -> usize {
+        match self.edges.get(number) {
+            Some(edge) => edge.target(),
+            None => 0,
+        }
+    }
+
     /// From which number to which the edges out of a position go, where edges rise by their sources.
     pub(crate) fn numbers_out(&self, position: usize) -> (usize, usize) {
         let edges = self.edges.as_slice();
@@ -133,9 +141,19 @@ impl Network {
         (first, end)
     }
 
-    /// The numbers of the edges into a position, as far as they were noted.
-    pub(crate) fn numbers_into(&self, position: usize) -> &[u32] {
-        self.listing.numbers_into(position)
+    /// Where the edges into a position are found, as far as they were noted.
+    pub(crate) fn entries_into(&self, position: usize) -> &[Entry] {
+        self.listing.entries_into(position)
+    }
+
+    /// The number of the edge that is found there, where edges rise by their sources.
+    pub(crate) fn number_of(&self, entry: &Entry) -> usize {
+        let source = entry.source();
+        let first = self
+            .edges
+            .as_slice()
+            .partition_point(|edge| edge.source() < source);
+        first.saturating_add(entry.place())
     }
 
     /// What gives it memory.

@@ -10,6 +10,7 @@ ghost use Rattle.tg_flow.specs.Searches.{search_of, level_by, MissesNone, HasMet
 
 use crate::courses::Course;
 use crate::edges::{FlowEdge, Passage, Role, Side};
+use crate::listing::Entry;
 use crate::network::Network;
 use crate::ways::{Step, Ways};
 use std::alloc::AllocError;
@@ -173,6 +174,24 @@ impl<'a> Search<'a> {
         Ok(source || target)
     }
 
+    // Looks at the edge out of a position with a number, unless both of its ends were met.
+    fn look_at_number(
+        &self,
+        ways: &mut Ways,
+        position: usize,
+        number: usize,
+    ) -> Result<(), AllocError>
+        requires { IsSearch (search_of self.now) ways.old }
+        ensures { OnOk result
+            (GoesFurther (search_of self.now) ways.old ways.new) }
+    {
+        if ways.has_met(self.network.target(number)) && ways.has_met(position) {
+            return Ok(());
+        }
+        self.look(ways, number)?;
+        Ok(())
+    }
+
     // Looks at the edges out of a position.
     fn look_out(&self, ways: &mut Ways, position: usize) -> Result<(), AllocError>
         requires { IsSearch (search_of self.now) ways.old }
@@ -181,8 +200,26 @@ impl<'a> Search<'a> {
     {
         let (first, end) = self.network.numbers_out(position);
         for number in first..end {
-            self.look(ways, number)?;
+            self.look_at_number(ways, position, number)?;
         }
+        Ok(())
+    }
+
+    // Looks at an edge into a position, unless both of its ends were met.
+    fn look_at_entry(
+        &self,
+        ways: &mut Ways,
+        position: usize,
+        entry: &Entry,
+    ) -> Result<(), AllocError>
+        requires { IsSearch (search_of self.now) ways.old }
+        ensures { OnOk result
+            (GoesFurther (search_of self.now) ways.old ways.new) }
+    {
+        if ways.has_met(entry.source()) && ways.has_met(position) {
+            return Ok(());
+        }
+        self.look(ways, self.network.number_of(entry))?;
         Ok(())
     }
 
@@ -192,8 +229,8 @@ impl<'a> Search<'a> {
         ensures { OnOk result
             (GoesFurther (search_of self.now) ways.old ways.new) }
     {
-        for number in self.network.numbers_into(position) {
-            self.look(ways, *number as usize)?;
+        for entry in self.network.entries_into(position) {
+            self.look_at_entry(ways, position, entry)?;
         }
         Ok(())
     }

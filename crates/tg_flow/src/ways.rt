@@ -1,6 +1,6 @@
 //! Which positions a search has met, and by which steps.
 ghost use Rattle.std.specs.Prelude.{◌≡◌, ◌<◌, None, Some, IfOk, OnOk, is_some, length, map, replicate, slice_set};
-ghost use Rattle.tg_flow.specs.Ways.{step_at, is_met};
+ghost use Rattle.tg_flow.specs.Ways.{step_at, is_met, level_at};
 
 use crate::edges::Side;
 use crate::packed_steps::PackedStep;
@@ -85,6 +85,57 @@ impl Ways {
         ensures { result ≡ is_met self.now position }
     {
         self.step(position).is_some()
+    }
+
+    /// How many steps there are from a position to the end; 0 where it was not met.
+    pub fn level(&self, position: usize) -> u16
+        ensures { result ≡ level_at self.now position }
+    {
+        match self.step(position) {
+            Some(step) => step.level,
+            None => 0,
+        }
+    }
+
+    /// The position has another step; nothing changes where it is none of those, or no `PackedStep` can say it.
+    pub fn change(&mut self, position: usize, step: Step) {
+        if position < self.steps.len()
+            && let Some(packed) = PackedStep::new(step)
+        {
+            self.steps[position] = packed;
+        }
+    }
+
+    /// Nobody comes to the position from another level.
+    pub fn shut(&mut self, position: usize) {
+        if let Some(step) = self.step(position) {
+            let level = u16::MAX;
+            self.change(position, Step { level, ..step });
+        }
+    }
+
+    // The step of a position comes before those by all edges.
+    fn begin(&mut self, position: usize) {
+        if let Some(step) = self.step(position) {
+            let level = step.level;
+            let number = 0;
+            let side = Side::Source;
+            self.change(
+                position,
+                Step {
+                    number,
+                    side,
+                    level,
+                },
+            );
+        }
+    }
+
+    /// The step of each comes before those by all edges.
+    pub fn begin_all(&mut self) {
+        for position in 0..self.steps.len() {
+            self.begin(position);
+        }
     }
 
     /// Meets a position by a step.

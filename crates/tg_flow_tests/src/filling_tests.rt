@@ -69,6 +69,21 @@ fn units_that_meet(rt: HostRuntime) {
 }
 
 #[test]
+fn a_unit_turns_back(rt: HostRuntime) {
+    // the first unit goes by 2 and 4; the next comes by 3 to 4, turns back there, and goes by 5
+    let edges = [
+        (0, 2, LINK, false),
+        (0, 3, LINK, false),
+        (2, 4, LINK, false),
+        (3, 4, LINK, false),
+        (3, 5, LINK, false),
+        (4, 1, END, false),
+        (5, 1, END, false),
+    ];
+    assert_filled(&rt, rt.alloc(), &edges, Some(2));
+}
+
+#[test]
 fn edges_from_a_position_to_itself(rt: HostRuntime) {
     let alloc = rt.alloc();
     assert_filled(

@@ -1,14 +1,12 @@
 use Rattle.std.proofs.lemmas.Option.{MatchOption-at_none}
-use Rattle.tg_flow.specs.Ways.{level_at}
 use Rattle.tg_flow.specs.Sending.{GoesOut, GoesOn}
 use Rattle.tg_flow.proofs.Changes.{same-none, same-then}
-use Rattle.tg_flow.proofs.Carried.{carried-first, ways-up_to}
+use Rattle.tg_flow.proofs.Carried.{carried-first}
 use Rattle.tg_flow.proofs.network.Network.send.Goals as goal
 
 pub loop-next-init : goal.loop-next-init
 loop-next-init c = record {
-  met = c.requires.met;
-  can = ways-up_to c.args.self.now c.args.ways.now (level_at c.args.ways.now c.args.x) c.requires.ways;
+  way = c.requires;
   same = same-none c.args.self.now;
   carried = carried-first c.args.self.now c.args.x;
 }
@@ -18,8 +16,7 @@ loop-next-preserved c =
     let now = c.loop-next.invariant in
     let goes = c.in-Some.ensures in
     record {
-      met = goes.met;
-      can = goes.can;
+      way = goes.way;
       same = same-then c.args.self.now c.loop-next.self c.pass.new.self now.same goes.same;
       carried = λ units flow. goes.on c.args.x units (now.carried units flow);
     }
