@@ -184,11 +184,11 @@ def chain_policy(size, count, chance):
 
 
 def groups_of_all(count):
-    """The text of a policy about long names: so many groups of all vertices, and no claim."""
+    """The text of a policy about long names: so many groups of all vertices, and one claim."""
     names = [f"v{number:015}" for number in range(MOST_VERTICES)]
     lines = [f"group all {' '.join(names[at : at + 14])}\n" for at in range(0, MOST_VERTICES, 14)]
     lines += (f"group g{number} @all\n" for number in range(count))
-    return "".join(lines).encode()
+    return "".join([*lines, f"never r {names[0]} {names[1]}\n"]).encode()
 
 
 @dataclass(frozen=True)

@@ -64,9 +64,11 @@ def large_second_cases(files):
 
 def group_cases(files):
     """A policy of little more than a MB whose groups have 266 million members, and a smaller one."""
-    graph, kept = files.text("group_graph", long_names()), Whole(b"kept\n", 0)
+    graph = files.text("group_graph", long_names())
     for count, limits in {65_000: (16, 64, 256), 256: (64, AMPLE_MEMORY)}.items():
-        words = [b"verify", graph, files.text(f"{count}_groups", groups_of_all(count))]
+        policy = groups_of_all(count)
+        kept = Whole(b"%d holds\nkept\n" % policy.count(b"\n"), 0)
+        words = [b"verify", graph, files.text(f"{count}_groups", policy)]
         title = f"verify: {count:,} groups of all vertices"
         for memory in limits:
             allowed = [kept] if memory == AMPLE_MEMORY else [kept, Says("memory")]

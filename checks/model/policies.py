@@ -3,7 +3,7 @@ from dataclasses import dataclass
 from itertools import product
 
 from model.graphs import LETTERS
-from model.texts import Reader, is_name, is_rights, texts
+from model.texts import Reader, TextFault, is_name, is_rights, texts
 
 MOST_POLICY_LINES = 65_536
 # For each word of a line, the fewest words behind it, and the most where there is such a limit.
@@ -80,8 +80,10 @@ class PolicyReader(Reader):
         else:
             self.claims.append(Claim(number, word, set(first), operands))
 
-    def value(self, _):
-        """The claims."""
+    def value(self, line_count):
+        """The claims. There is one at least."""
+        if not self.claims:
+            raise TextFault(line_count + 1, "no-claim")
         return self.claims
 
 

@@ -37,6 +37,7 @@ kind_word kind.UnknownGroup = codes "unknown-group"
 kind_word kind.DuplicateEdge = codes "duplicate-edge"
 kind_word kind.TooMany = codes "too-many"
 kind_word kind.NoHeader = codes "no-header"
+kind_word kind.NoClaim = codes "no-claim"
 
 -- the one line of an input that is refused
 abbrev pub refusal : List (List ℕ) → ReportText

@@ -36,6 +36,7 @@ fn kind_word(kind: TextKind) -> &'static str
         TextKind::DuplicateEdge => "duplicate-edge",
         TextKind::TooMany => "too-many",
         TextKind::NoHeader => "no-header",
+        TextKind::NoClaim => "no-claim",
     }
 }
 

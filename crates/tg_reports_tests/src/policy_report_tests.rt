@@ -19,8 +19,22 @@ fn lines_that_hold(rt: HostRuntime) -> Result<(), Fail> {
     let wanted = b"1 holds\n2 holds\n3 holds\n6 holds\n7 holds\n8 holds\nkept\n";
     reports(&rt, PLAIN, SIX, policy, wanted, 0)?;
     reports(&rt, WITH_DERIVATIONS, SIX, policy, wanted, 0)?;
-    for nothing in [b"".as_slice(), b"# nothing yet\n\n", b"group g a\n"] {
-        reports(&rt, PLAIN, SIX, nothing, b"kept\n", 0)?;
+    Ok(())
+}
+
+// A policy that states nothing is not kept, but refused.
+#[test]
+fn no_line_that_states_anything(rt: HostRuntime) -> Result<(), Fail> {
+    for (nothing, wanted) in [
+        (
+            b"".as_slice(),
+            b"refused policy line 1 no-claim\n".as_slice(),
+        ),
+        (b"# nothing yet\n\n", b"refused policy line 3 no-claim\n"),
+        (b"group g a\n", b"refused policy line 2 no-claim\n"),
+    ] {
+        reports(&rt, PLAIN, SIX, nothing, wanted, 1)?;
+        reports(&rt, WITH_DERIVATIONS, SIX, nothing, wanted, 1)?;
     }
     Ok(())
 }

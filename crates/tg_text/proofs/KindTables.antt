@@ -4,7 +4,7 @@ use Rattle.std.specs.Prelude.{Contains, IsTrue}
 use Rattle.std.specs.List.{AllByRecursion}
 use Rattle.std.proofs.lemmas.Bool.{false≢true, and_parts}
 use Rattle.tg_words.specs.declared.faults.TextKind.{TextKind}
-use Rattle.tg_words.specs.declared.faults.TextKind.TheVariants.{LineTooLong, BadWord, WordCount, BadNumber, BadName, BadRights, DuplicateVertex, TooManyVertices, UnknownVertex, UnknownGroup, DuplicateEdge, TooMany, NoHeader}
+use Rattle.tg_words.specs.declared.faults.TextKind.TheVariants.{LineTooLong, BadWord, WordCount, BadNumber, BadName, BadRights, DuplicateVertex, TooManyVertices, UnknownVertex, UnknownGroup, DuplicateEdge, TooMany, NoHeader, NoClaim}
 use Rattle.tg_text.specs.declared.rule_text.RuleLine.{RuleLine}
 use Rattle.tg_text.specs.declared.script_text.ScriptLine.{ScriptLine}
 use Rattle.tg_text.specs.declared.script_text.Header.{Header}
@@ -49,6 +49,7 @@ of_graph made line UnknownGroup h = absurd (never (is_skipped (words_of line)) f
 of_graph made line DuplicateEdge h = (9, omega arith, refl)
 of_graph made line TooMany h = absurd (never (is_skipped (words_of line)) false refl h)
 of_graph made line NoHeader h = absurd (never (is_skipped (words_of line)) false refl h)
+of_graph made line NoClaim h = absurd (never (is_skipped (words_of line)) false refl h)
 
 pub graph_has_these_kinds : GraphHasTheseKinds
 graph_has_these_kinds text m kind e = let f = (graph_text_kinds text m kind).0 e in of_graph f.first.before f.first.line kind f.kind_of_line.holds
@@ -67,6 +68,7 @@ of_one_rule line UnknownGroup h = absurd (false≢true h)
 of_one_rule line DuplicateEdge h = absurd (false≢true h)
 of_one_rule line TooMany h = absurd (false≢true h)
 of_one_rule line NoHeader h = absurd (false≢true h)
+of_one_rule line NoClaim h = absurd (false≢true h)
 
 pub one_rule_has_these_kinds : OneRuleHasTheseKinds
 one_rule_has_these_kinds line kind e = of_one_rule line kind ((laws.one_rule_kinds line kind).0 e).holds
@@ -85,6 +87,7 @@ of_rules rules line UnknownGroup h = absurd (never (is_skipped (words_of line)) 
 of_rules rules line DuplicateEdge h = absurd (never (is_skipped (words_of line)) false refl h)
 of_rules rules line TooMany h = (5, omega arith, refl)
 of_rules rules line NoHeader h = absurd (never (is_skipped (words_of line)) false refl h)
+of_rules rules line NoClaim h = absurd (never (is_skipped (words_of line)) false refl h)
 
 pub rules_have_these_kinds : RulesHaveTheseKinds
 rules_have_these_kinds text m kind e = let f = (rules_text_kinds text m kind).0 e in of_rules f.first.before f.first.line kind f.kind_of_line.holds
@@ -103,6 +106,7 @@ of_script made line UnknownGroup h = absurd (never (is_skipped (words_of line)) 
 of_script made line DuplicateEdge h = absurd (never (is_skipped (words_of line)) false refl h)
 of_script made line TooMany h = (6, omega arith, refl)
 of_script made line NoHeader h = (7, omega arith, refl)
+of_script made line NoClaim h = absurd (never (is_skipped (words_of line)) false refl h)
 
 early : (kind : TextKind) → kind ≡ NoHeader → Contains script_kinds kind
 early kind e = subst (Contains script_kinds) (sym e) (7, omega arith, refl)

@@ -3,12 +3,12 @@ use Rattle.std.proofs.Common.{◌≡◌, refl, sym, ◌∙◌, ap, inl, inr, ◌
 use Rattle.std.specs.Prelude.{◌↔◌}
 use Rattle.std.proofs.lemmas.Bool.{true≢false}
 use Rattle.tg_words.specs.declared.faults.TextKind.{TextKind}
-use Rattle.tg_words.specs.declared.faults.TextKind.TheVariants.{LineTooLong, BadWord, WordCount, BadNumber, BadName, BadRights, DuplicateVertex, TooManyVertices, UnknownVertex, UnknownGroup, DuplicateEdge, TooMany, NoHeader}
+use Rattle.tg_words.specs.declared.faults.TextKind.TheVariants.{LineTooLong, BadWord, WordCount, BadNumber, BadName, BadRights, DuplicateVertex, TooManyVertices, UnknownVertex, UnknownGroup, DuplicateEdge, TooMany, NoHeader, NoClaim}
 use Rattle.tg_text.specs.FaultKinds.{order_of, IsLeastKind}
 
 -- the kinds that a line's words can have, in order
 abbrev pub word_kinds : List TextKind
-word_kinds = BadWord ∷ WordCount ∷ BadNumber ∷ BadName ∷ BadRights ∷ DuplicateVertex ∷ TooManyVertices ∷ UnknownVertex ∷ UnknownGroup ∷ DuplicateEdge ∷ TooMany ∷ NoHeader ∷ []
+word_kinds = BadWord ∷ WordCount ∷ BadNumber ∷ BadName ∷ BadRights ∷ DuplicateVertex ∷ TooManyVertices ∷ UnknownVertex ∷ UnknownGroup ∷ DuplicateEdge ∷ TooMany ∷ NoHeader ∷ NoClaim ∷ []
 
 abbrev pub all_kinds : List TextKind
 all_kinds = LineTooLong ∷ word_kinds
@@ -74,7 +74,7 @@ least_is_first test n (k ∷ ks) h kind m l = by (test k) refl m (least_is_first
     by false t (inr in_rest) further = further in_rest (l.0, λ other m less. l.1 other (inr m) less)
 
 numbered : Numbered 1 all_kinds
-numbered = (refl, (refl, (refl, (refl, (refl, (refl, (refl, (refl, (refl, (refl, (refl, (refl, (refl, tt)))))))))))))
+numbered = (refl, (refl, (refl, (refl, (refl, (refl, (refl, (refl, (refl, (refl, (refl, (refl, (refl, (refl, tt))))))))))))))
 
 each_kind : (kind : TextKind) → Among kind all_kinds
 each_kind LineTooLong = inl refl
@@ -90,6 +90,7 @@ each_kind UnknownGroup = inr (inr (inr (inr (inr (inr (inr (inr (inr (inl refl))
 each_kind DuplicateEdge = inr (inr (inr (inr (inr (inr (inr (inr (inr (inr (inl refl))))))))))
 each_kind TooMany = inr (inr (inr (inr (inr (inr (inr (inr (inr (inr (inr (inl refl)))))))))))
 each_kind NoHeader = inr (inr (inr (inr (inr (inr (inr (inr (inr (inr (inr (inr (inl refl))))))))))))
+each_kind NoClaim = inr (inr (inr (inr (inr (inr (inr (inr (inr (inr (inr (inr (inr (inl refl)))))))))))))
 
 -- where reading gives the first kind, it gives exactly the least one
 pub exactly_least : {A : Type 0} (r : Result A TextKind) (test : TextKind → Bool) → fault_of r ≡ first_kind test all_kinds → (kind : TextKind) → (r ≡ Err kind) ↔ IsLeastKind test kind

@@ -26,6 +26,7 @@ pub mod SmallGraphs
 pub mod PlainEdges
 pub mod PlainRules
 pub mod RuleSinks
+pub mod PolicyClaims
 pub mod PolicyReads
 pub mod PolicyLaws
 pub mod PolicySound

@@ -16,13 +16,14 @@ use Rattle.tg_words.specs.Lines.{lines_of, is_skipped}
 use Rattle.tg_words.specs.Words.{Word}
 use Rattle.tg_words.specs.Reading.{◌>>=◌, on_line, after_lines}
 use Rattle.tg_words.specs.Spelling.{rights_text, spaced}
-use Rattle.tg_text.specs.PolicyText.{PolicyLineOf, makes_group, has_group, policy_item, policy_text, IsClaim, IsKnown, IsPolicyLine, ArePolicyLines}
+use Rattle.tg_text.specs.PolicyText.{PolicyLineOf, makes_group, has_group, policy_item, policy_lines, IsClaim, IsKnown, IsPolicyLine, ArePolicyLines}
 use Rattle.tg_text.specs.PolicyGrammar.{operand_word, WritesClaim}
 use Rattle.tg_text.specs.PolicyTrips.{claim_words, policy_words, lines_of_policy, renumbered, PoliciesAreReadAsWritten}
 use Rattle.tg_words.specs.Limits.{most_line_bytes, most_policy_lines}
 use Rattle.tg_text.proofs.PlainWords.{IsPlainWord, word_from_test, name_word, rights_word, lines-spaced, line-is}
 use Rattle.tg_text.proofs.RightsBack.{rights-back}
 use Rattle.tg_text.proofs.PolicyLaws.{all-to, policy_item_from}
+use Rattle.tg_text.proofs.PolicyClaims.{policy-stated, has_claim-renumbered}
 
 abbrev line_with : ℕ → Claim → List Operand → PolicyLineOf
 line_with n says operands = record { line = n; claim = says; operands = operands }
@@ -147,6 +148,8 @@ module _ (g : ProtectionGraph) where
       ∙ ap Ok (append_assoc made (next ∷ []) (renumbered (n + 1) lines))))
 
 pub policies-back : PoliciesAreReadAsWritten
-unfolding policy_text
-policies-back g lines sound fits =
-    policy-read g 1 [] [] lines (λ q. refl) (next-from g [] lines sound) (all-to (IsShort g) lines fits.short) (omega (arith, fits.few))
+unfolding policy_lines
+policies-back g lines sound fits claim =
+    policy-stated g (lines_of_policy lines) (renumbered 1 lines)
+    (policy-read g 1 [] [] lines (λ q. refl) (next-from g [] lines sound) (all-to (IsShort g) lines fits.short) (omega (arith, fits.few)))
+    (has_claim-renumbered 1 lines ∙ claim)

@@ -177,4 +177,5 @@ module _ (g : ProtectionGraph) where
 pub read-policies-fit : ReadPoliciesFit
 read-policies-fit g text lines e =
     let none : FitsText [] = record { few = omega arith; short = λ k d l. absurd (omega arith) } in
-    (policies_sound g text lines e, fits-text g 1 [] (lines_of text) lines none ((policy_texts_are_those g text lines).0 e))
+    let are = (policy_texts_are_those g text lines).0 e in
+    (policies_sound g text lines e, fits-text g 1 [] (lines_of text) lines none are.written, are.claim)

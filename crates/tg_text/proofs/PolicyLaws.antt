@@ -1,5 +1,5 @@
 -- The lines of a policy that are read are those that the words spell.
-use Rattle.std.proofs.Common.{◌≡◌, refl, sym, ◌∙◌, ap, subst, inl, inr, ℕ, zero, suc, ◌<◌, Bool, true, false, cond, not, ◌||◌, eqb, List, [], ◌∷◌, ◌++◌, map, length, get_or, Option, None, Some, Result, Ok, Err, arith}
+use Rattle.std.proofs.Common.{◌≡◌, refl, sym, ◌∙◌, ap, subst, inl, inr, ◌⊎◌, ℕ, zero, suc, ◌+◌, ◌<◌, Bool, true, false, cond, not, ◌||◌, eqb, List, [], ◌∷◌, ◌++◌, map, length, get_or, Option, None, Some, Result, Ok, Err, arith}
 use Rattle.std.specs.Prelude.{All, codes}
 use Rattle.std.specs.List.{AllByRecursion, list_any}
 use Rattle.std.proofs.lemmas.Bool.{eqb-true}
@@ -11,7 +11,7 @@ use Rattle.tg_names.specs.Sets.{is_empty_set}
 use Rattle.tg_names.specs.Letters.{set_of_letters}
 use Rattle.tg_graph.specs.Graphs.{ProtectionGraph, has_vertex}
 use Rattle.tg_words.specs.declared.faults.TextKind.{TextKind}
-use Rattle.tg_words.specs.declared.faults.TextKind.TheVariants.{BadWord, BadRights, UnknownVertex, UnknownGroup}
+use Rattle.tg_words.specs.declared.faults.TextKind.TheVariants.{BadWord, BadRights, UnknownVertex, UnknownGroup, NoClaim}
 use Rattle.tg_text.specs.declared.policy_text.Operand.{Operand}
 use Rattle.tg_text.specs.declared.policy_text.Operand.TheVariants as operand
 use Rattle.tg_text.specs.declared.policy_text.Claim.{Claim}
@@ -19,12 +19,14 @@ use Rattle.tg_text.specs.declared.policy_text.Claim.TheVariants as claim
 use Rattle.tg_words.specs.Lines.{lines_of}
 use Rattle.tg_words.specs.Words.{Word, is_word, name_at, rights_at, value_or, some_rights_at, word_and_some, word_and_two}
 use Rattle.tg_words.specs.Reading.{◌>>=◌}
-use Rattle.tg_text.specs.PolicyText.{PolicyLineOf, Said, operand_at, operands_at, group_of_words, rights_and_operands, said_by_words, has_group, lacks_vertex, lacks_group, known_operands, policy_line, policy_item, policy_text, MayHave, IsKnown}
-use Rattle.tg_text.specs.PolicyGrammar.{operand_word, WritesRights, WritesClaim, IsPolicyItem, PolicyTextsAreThose, PolicyFaultsAreFirst}
+use Rattle.tg_text.specs.Grammar.{AreLines}
+use Rattle.tg_text.specs.PolicyText.{PolicyLineOf, Said, operand_at, operands_at, group_of_words, rights_and_operands, said_by_words, has_group, lacks_vertex, lacks_group, known_operands, policy_line, policy_item, with_claim, policy_lines, policy_text, MayHave, IsKnown}
+use Rattle.tg_text.specs.PolicyGrammar.{operand_word, WritesRights, WritesClaim, IsPolicyItem, StatesNothing, PolicyTextsAreThose, PolicyFaultsAreFirst}
 use Rattle.tg_words.specs.Limits.{most_policy_lines}
 use Rattle.tg_text.proofs.Steps.{ok_is, bind_ok, else_ok, chosen, value_ok, word_is, name_ok, name_from}
-use Rattle.tg_text.proofs.GrammarLaws.{lines_ok, lines_from, lines_fault}
+use Rattle.tg_text.proofs.GrammarLaws.{cases_result, same_fault, lines_ok, lines_from, lines_fault}
 use Rattle.tg_text.proofs.RuleLaws.{item_ok, item_from}
+use Rattle.tg_text.proofs.PolicyClaims.{refused, ended, claim_ok, claim_fault, policy-stated}
 
 -- ---- each element, by recursion and by index
 
@@ -362,13 +364,41 @@ policy_item_from g n lines words more h =
     ∙ ap (λ (r : Operands). r >>= λ operands. Ok (line_with n h.claim operands)) (known_from g lines h.operands known) in
     item_from most_policy_lines lines (policy_line g n lines words) (line_with n h.claim h.operands) more read h.room h.makes
 
+-- ---- the whole
+
+pub policy_lines_ok : (g : ProtectionGraph) (text : List ℕ) (lines : List PolicyLineOf) → policy_lines g text ≡ Ok lines → AreLines (IsPolicyItem g) 1 [] (lines_of text) lines
+unfolding policy_lines
+policy_lines_ok g text lines e = lines_ok (policy_item g) (IsPolicyItem g) (policy_item_ok g) (policy_item_from g) 1 [] (lines_of text) lines e
+
+pub policy_lines_from : (g : ProtectionGraph) (text : List ℕ) (lines : List PolicyLineOf) → AreLines (IsPolicyItem g) 1 [] (lines_of text) lines → policy_lines g text ≡ Ok lines
+unfolding policy_lines
+policy_lines_from g text lines h = lines_from (policy_item g) (IsPolicyItem g) (policy_item_ok g) (policy_item_from g) 1 [] (lines_of text) lines h
+
 pub policy_texts_are_those : PolicyTextsAreThose
 unfolding policy_text
 policy_texts_are_those g text lines = (
-  λ e. lines_ok (policy_item g) (IsPolicyItem g) (policy_item_ok g) (policy_item_from g) 1 [] (lines_of text) lines e,
-  λ h. lines_from (policy_item g) (IsPolicyItem g) (policy_item_ok g) (policy_item_from g) 1 [] (lines_of text) lines h,
+  λ e.
+      let b = bind_ok (policy_lines g text) (λ found. with_claim (length (lines_of text) + 1) found) lines e in
+      let c = claim_ok (length (lines_of text) + 1) b.0 lines b.2 in
+      record { written = subst (AreLines (IsPolicyItem g) 1 [] (lines_of text)) c.0 (policy_lines_ok g text b.0 b.1); claim = c.1 },
+  λ h. policy-stated g text lines (policy_lines_from g text lines h.written) h.claim,
 )
 
-pub policy_faults_are_first : PolicyFaultsAreFirst
+-- a fault is that of a line, or that the lines state nothing
+pub policy_fault : (g : ProtectionGraph) (text : List ℕ) (m : ℕ) (kind : TextKind) → policy_text g text ≡ Err (m, kind) → (policy_lines g text ≡ refused m kind) ⊎ ((kind ≡ NoClaim) × StatesNothing g (lines_of text) m)
 unfolding policy_text
-policy_faults_are_first g text m kind e = lines_fault (policy_item g) (IsPolicyItem g) (policy_item_ok g) (policy_item_from g) 1 [] (lines_of text) m kind e
+policy_fault g text m kind e =
+    elim (cases_result (policy_lines g text)) [
+      | inl p ↦ (
+          let f = claim_fault (length (lines_of text) + 1) p.0 m kind (sym (ap (ended text) p.1) ∙ e) in
+          inr (f.1, record { number = f.0; lines = p.0; written = policy_lines_ok g text p.0 p.1; none = f.2 }))
+      | inr p ↦ inl (p.1 ∙ ap Err (same_fault (List PolicyLineOf) p.0 (m, kind) (sym (ap (ended text) p.1) ∙ e)))
+    ]
+
+pub policy_faults_are_first : PolicyFaultsAreFirst
+unfolding policy_lines
+policy_faults_are_first g text m kind e =
+    elim (policy_fault g text m kind e) [
+      | inl f ↦ inl (lines_fault (policy_item g) (IsPolicyItem g) (policy_item_ok g) (policy_item_from g) 1 [] (lines_of text) m kind f)
+      | inr h ↦ inr h.1
+    ]

@@ -27,8 +27,9 @@ use Rattle.tg_words.specs.Lines.{lines_of, words_of, is_skipped}
 use Rattle.tg_words.specs.Words.{Word}
 use Rattle.tg_words.specs.Reading.{◌>>=◌, on_line, after_line, after_lines, with_item, Makes, MakesAll, Reads}
 use Rattle.tg_text.specs.Canonical.{name_cmp}
-use Rattle.tg_text.specs.PolicyText.{PolicyLineOf, line_of_policy, policy_of, Said, operand_at, operands_at, said_by_words, makes_group, has_group, lacks_vertex, lacks_group, known_operands, policy_line, policy_item, policy_text}
+use Rattle.tg_text.specs.PolicyText.{PolicyLineOf, line_of_policy, policy_of, Said, operand_at, operands_at, said_by_words, makes_group, has_group, lacks_vertex, lacks_group, known_operands, policy_line, policy_item, policy_lines, policy_text}
 use Rattle.tg_text.specs.PolicyState.{item_over, HasGroupsOf, lacks_name, known_to}
+use Rattle.tg_text.proofs.PolicyClaims.{policy-faulty}
 
 -- ---- operands
 
@@ -206,25 +207,21 @@ module _ (g : ProtectionGraph) where
       by later (Err kind) = refl
 
   -- the lines of a text are those that are made beside the graph
-  pub policy-made : (text : List ℕ) → policy_text g text ≡ (after_lines item_over 1 (g, []) (lines_of text) >>= λ made. Ok made.1)
-  unfolding policy_text
+  pub policy-made : (text : List ℕ) → policy_lines g text ≡ (after_lines item_over 1 (g, []) (lines_of text) >>= λ made. Ok made.1)
+  unfolding policy_lines
   policy-made text = by (after_lines (policy_item g) 1 [] (lines_of text)) ∙ ap (λ r. r >>= λ made. Ok made.1) (sym (lines-over (lines_of text) 1 []))
     where
       by : (r : Result (List PolicyLineOf) (ℕ × TextKind)) → r ≡ ((r >>= λ all. Ok (with_graph all)) >>= λ made. Ok made.1)
       by (Ok lines) = refl
       by (Err fault) = refl
 
-  pub policy-fault : {X : Type 0} (view : X → List PolicyLineOf) (text : List ℕ) (count : ℕ) (fault : TextFault) (made : ProtectionGraph × List PolicyLineOf) → MakesAll (after_lines item_over 1 (g, []) (lines_of text)) count (Err fault) made → Reads view (Err fault) (policy_text g text)
-  policy-fault view text count (At line kind) made h = policy-made text ∙ ap (λ r. r >>= λ all. Ok all.1) h
-  policy-fault view text count Memory made h = tt
-
   -- the same from lines that are none
   abbrev Start : List PolicyLineOf → List ℕ → Result Beside (ℕ × TextKind)
   Start start text = after_lines item_over 1 (with_graph start) (lines_of text)
 
-  pub policy-made-from : (text : List ℕ) (start : List PolicyLineOf) → start ≡ [] → policy_text g text ≡ (Start start text >>= λ made. Ok made.1)
+  pub policy-made-from : (text : List ℕ) (start : List PolicyLineOf) → start ≡ [] → policy_lines g text ≡ (Start start text >>= λ made. Ok made.1)
   policy-made-from text start none = policy-made text ∙ ap (λ (s : List PolicyLineOf). Start s text >>= λ made. Ok made.1) (sym none)
 
   pub policy-fault-from : {X : Type 0} (view : X → List PolicyLineOf) (text : List ℕ) (start : List PolicyLineOf) → start ≡ [] → (count : ℕ) (fault : TextFault) (made : ProtectionGraph × List PolicyLineOf) → MakesAll (Start start text) count (Err fault) made → Reads view (Err fault) (policy_text g text)
-  policy-fault-from view text start none count (At line kind) made h = policy-made-from text start none ∙ ap (λ r. r >>= λ all. Ok all.1) h
+  policy-fault-from view text start none count (At line kind) made h = policy-faulty g text line kind (policy-made-from text start none ∙ ap (λ r. r >>= λ all. Ok all.1) h)
   policy-fault-from view text start none count Memory made h = tt

@@ -72,4 +72,4 @@ module _ (g : ProtectionGraph) where
       by false item = after_item n lines (words_of line) h.0 all item
 
   pub policies_sound : (text : List ℕ) (lines : List PolicyLineOf) → policy_text g text ≡ Ok lines → ArePolicyLines g lines
-  policies_sound text lines e = after_text 1 [] (lines_of text) lines none ((policy_texts_are_those g text lines).0 e)
+  policies_sound text lines e = after_text 1 [] (lines_of text) lines none ((policy_texts_are_those g text lines).0 e).written

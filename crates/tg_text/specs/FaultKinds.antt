@@ -5,7 +5,7 @@ use Rattle.tg_names.specs.Sets.{is_empty_set}
 use Rattle.tg_graph.specs.Additions.{label_between}
 use Rattle.tg_graph.specs.Graphs.{ProtectionGraph, has_vertex}
 use Rattle.tg_words.specs.declared.faults.TextKind.{TextKind}
-use Rattle.tg_words.specs.declared.faults.TextKind.TheVariants.{LineTooLong, BadWord, WordCount, BadNumber, BadName, BadRights, DuplicateVertex, TooManyVertices, UnknownVertex, UnknownGroup, DuplicateEdge, TooMany, NoHeader}
+use Rattle.tg_words.specs.declared.faults.TextKind.TheVariants.{LineTooLong, BadWord, WordCount, BadNumber, BadName, BadRights, DuplicateVertex, TooManyVertices, UnknownVertex, UnknownGroup, DuplicateEdge, TooMany, NoHeader, NoClaim}
 use Rattle.tg_text.specs.declared.rule_text.RuleLine.{RuleLine}
 use Rattle.tg_text.specs.declared.script_text.ScriptLine.{ScriptLine}
 use Rattle.tg_text.specs.declared.script_text.Header.{Header}
@@ -39,6 +39,7 @@ order_of UnknownGroup = 10
 order_of DuplicateEdge = 11
 order_of TooMany = 12
 order_of NoHeader = 13
+order_of NoClaim = 14
 
 -- the condition holds of this kind, and of none before it
 pub record IsLeastKind (condition : TextKind → Bool) (kind : TextKind) : Type 0 where

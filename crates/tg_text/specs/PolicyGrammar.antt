@@ -1,5 +1,5 @@
 -- The grammar of the text of a policy.
-use Rattle.std.specs.Prelude.{◌≡◌, ◌↔◌, ℕ, ◌<◌, false, All, List, [], ◌∷◌, ◌++◌, length, map, codes, Some, Ok, Err}
+use Rattle.std.specs.Prelude.{◌≡◌, ◌↔◌, ◌⊎◌, ℕ, ◌+◌, ◌<◌, true, false, All, List, [], ◌∷◌, ◌++◌, length, map, codes, Some, Ok, Err}
 use Rattle.tg_names.specs.declared.right_sets.Rights.{Rights}
 use Rattle.tg_names.specs.Names.{IsName}
 use Rattle.tg_names.specs.Sets.{is_empty_set}
@@ -12,7 +12,7 @@ use Rattle.tg_text.specs.declared.policy_text.Claim.{Claim}
 use Rattle.tg_text.specs.declared.policy_text.Claim.TheVariants as claim
 use Rattle.tg_words.specs.Lines.{lines_of}
 use Rattle.tg_words.specs.Words.{Word}
-use Rattle.tg_text.specs.PolicyText.{PolicyLineOf, policy_text, IsKnown, MayHave}
+use Rattle.tg_text.specs.PolicyText.{PolicyLineOf, policy_text, has_claim, IsKnown, MayHave}
 use Rattle.tg_text.specs.Grammar.{AreLines, IsFirstFault}
 use Rattle.tg_words.specs.Limits.{most_policy_lines}
 
@@ -46,14 +46,22 @@ pub record IsPolicyItem (g : ProtectionGraph) (n : ℕ) (lines : List PolicyLine
   pub room : length lines < most_policy_lines
   pub makes : more ≡ lines ++ record { line = n; claim = claim; operands = operands } ∷ []
 
--- the lines of a text write the lines of the policy
-abbrev pub IsPolicyText : ProtectionGraph → List (List ℕ) → List PolicyLineOf → Type 0
-IsPolicyText g text lines = AreLines (IsPolicyItem g) 1 [] text lines
+-- the lines of a text write the lines of the policy, and one of them states something
+pub record IsPolicyText (g : ProtectionGraph) (text : List (List ℕ)) (lines : List PolicyLineOf) : Type 0 where
+  pub written : AreLines (IsPolicyItem g) 1 [] text lines
+  pub claim : has_claim lines ≡ true
+
+-- the lines of a text write lines of which none states anything; m is the line behind the last
+pub record StatesNothing (g : ProtectionGraph) (text : List (List ℕ)) (m : ℕ) : Type 0 where
+  pub number : m ≡ length text + 1
+  pub lines : List PolicyLineOf
+  pub written : AreLines (IsPolicyItem g) 1 [] text lines
+  pub none : has_claim lines ≡ false
 
 -- a text has the lines of a policy exactly where the grammar gives it these
 abbrev pub PolicyTextsAreThose : Type 0
 PolicyTextsAreThose = (g : ProtectionGraph) (text : List ℕ) (lines : List PolicyLineOf) → (policy_text g text ≡ Ok lines) ↔ IsPolicyText g (lines_of text) lines
 
--- a fault names the first line to which the grammar gives nothing
+-- a fault names the first line to which the grammar gives nothing, or the line behind the last where no line states anything
 abbrev pub PolicyFaultsAreFirst : Type 0
-PolicyFaultsAreFirst = (g : ProtectionGraph) (text : List ℕ) (m : ℕ) (kind : TextKind) → policy_text g text ≡ Err (m, kind) → IsFirstFault (IsPolicyItem g) 1 [] (lines_of text) m
+PolicyFaultsAreFirst = (g : ProtectionGraph) (text : List ℕ) (m : ℕ) (kind : TextKind) → policy_text g text ≡ Err (m, kind) → IsFirstFault (IsPolicyItem g) 1 [] (lines_of text) m ⊎ StatesNothing g (lines_of text) m

@@ -1,12 +1,12 @@
 -- The kinds of fault of the text of a policy: of each by itself, when it holds of a line.
-use Rattle.std.specs.Prelude.{◌∷◌, ◌≡◌, ◌↔◌, ℕ, ◌==◌, nat_lt, nat_le, not, ◌||◌, Bool, false, List, [], length, drop, codes, is_some, is_ok, bytes_eq, Option, None, Err, Contains}
+use Rattle.std.specs.Prelude.{◌∷◌, ◌≡◌, ◌↔◌, ◌⊎◌, ℕ, ◌==◌, nat_lt, nat_le, not, ◌||◌, Bool, false, List, [], length, drop, codes, is_some, is_ok, bytes_eq, Option, None, Err, Contains}
 use Rattle.std.specs.List.{list_any}
 use Rattle.std.specs.Map.{lookup}
 use Rattle.std.specs.Option.{option_map_or}
 use Rattle.std.specs.Result.{result_ok}
 use Rattle.tg_graph.specs.Graphs.{ProtectionGraph}
 use Rattle.tg_words.specs.declared.faults.TextKind.{TextKind}
-use Rattle.tg_words.specs.declared.faults.TextKind.TheVariants.{LineTooLong, BadWord, WordCount, BadName, BadRights, UnknownVertex, UnknownGroup, TooMany}
+use Rattle.tg_words.specs.declared.faults.TextKind.TheVariants.{LineTooLong, BadWord, WordCount, BadName, BadRights, UnknownVertex, UnknownGroup, TooMany, NoClaim}
 use Rattle.tg_text.specs.declared.policy_text.Operand.{Operand}
 use Rattle.tg_words.specs.declared.versions.Version.TheVariants.{Two}
 use Rattle.tg_words.specs.Lines.{lines_of}
@@ -16,7 +16,7 @@ use Rattle.tg_text.specs.Forms.{Place, is_bad_name, are_bad_rights}
 use Rattle.tg_text.specs.Forms.Place.{AName, ALabel}
 use Rattle.tg_text.specs.FaultKinds.{IsLeastKind, IsFaultOf, of_line, passes_at}
 use Rattle.tg_text.specs.PolicyText.{PolicyLineOf, operand_at, lacks_vertex, lacks_group, policy_item, policy_text}
-use Rattle.tg_text.specs.PolicyGrammar.{IsPolicyItem}
+use Rattle.tg_text.specs.PolicyGrammar.{IsPolicyItem, StatesNothing}
 use Rattle.tg_words.specs.Limits.{most_policy_lines}
 
 -- the form of a line: what its second word is, and of how many operands behind that word the line may be
@@ -79,13 +79,17 @@ policy_condition g lines words _ = false
 abbrev pub PolicyLineKinds : Type 0
 PolicyLineKinds = (g : ProtectionGraph) (n : ℕ) (lines : List PolicyLineOf) (line : List ℕ) (kind : TextKind) → (after_line (policy_item g n) lines line ≡ Err kind) ↔ IsLeastKind (of_line (policy_condition g lines) line) kind
 
--- and a text exactly with its first faulty line and the least kind of that line
+-- and a text exactly with its first faulty line and the least kind of that line, or where it states nothing
 abbrev pub PolicyTextKinds : Type 0
-PolicyTextKinds = (g : ProtectionGraph) (text : List ℕ) (m : ℕ) (kind : TextKind) → (policy_text g text ≡ Err (m, kind)) ↔ IsFaultOf (IsPolicyItem g) (policy_condition g) [] (lines_of text) m kind
+PolicyTextKinds = (g : ProtectionGraph) (text : List ℕ) (m : ℕ) (kind : TextKind) → (policy_text g text ≡ Err (m, kind)) ↔ (IsFaultOf (IsPolicyItem g) (policy_condition g) [] (lines_of text) m kind ⊎ ((kind ≡ NoClaim) × StatesNothing g (lines_of text) m))
+
+-- `NoClaim` comes exactly where no line is faulty, and none states anything
+abbrev pub NoClaimIsStatesNothing : Type 0
+NoClaimIsStatesNothing = (g : ProtectionGraph) (text : List ℕ) (m : ℕ) → (policy_text g text ≡ Err (m, NoClaim)) ↔ StatesNothing g (lines_of text) m
 
 -- the kinds that a policy has
 abbrev pub policy_kinds : List TextKind
-policy_kinds = LineTooLong ∷ BadWord ∷ WordCount ∷ BadName ∷ BadRights ∷ UnknownVertex ∷ UnknownGroup ∷ TooMany ∷ []
+policy_kinds = LineTooLong ∷ BadWord ∷ WordCount ∷ BadName ∷ BadRights ∷ UnknownVertex ∷ UnknownGroup ∷ TooMany ∷ NoClaim ∷ []
 
 -- a policy has no fault of another kind
 abbrev pub PolicyHasTheseKinds : Type 0

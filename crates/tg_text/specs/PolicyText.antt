@@ -1,12 +1,12 @@
 -- The text of a policy.
-use Rattle.std.specs.Prelude.{◌≡◌, ℕ, ◌==◌, ◌<◌, not, Bool, false, true, All, List, [], ◌∷◌, length, map, take, slice_get, codes, Some, Result, Ok, Err, if◌then◌else◌}
+use Rattle.std.specs.Prelude.{◌≡◌, ℕ, ◌+◌, ◌==◌, ◌<◌, not, Bool, false, true, All, List, [], ◌∷◌, length, map, take, slice_get, codes, Some, Result, Ok, Err, if◌then◌else◌}
 use Rattle.std.specs.List.{list_any}
 use Rattle.tg_names.specs.declared.right_sets.Rights.{Rights}
 use Rattle.tg_names.specs.Names.{IsName, Name, same_name}
 use Rattle.tg_names.specs.Sets.{IsNamed, is_empty_set}
 use Rattle.tg_graph.specs.Graphs.{ProtectionGraph, has_vertex}
 use Rattle.tg_words.specs.declared.faults.TextKind.{TextKind}
-use Rattle.tg_words.specs.declared.faults.TextKind.TheVariants.{BadWord, BadName, UnknownVertex, UnknownGroup}
+use Rattle.tg_words.specs.declared.faults.TextKind.TheVariants.{BadWord, BadName, UnknownVertex, UnknownGroup, NoClaim}
 use Rattle.tg_text.specs.declared.policy_text.Operand.{Operand}
 use Rattle.tg_text.specs.declared.policy_text.Operand.TheVariants as operand
 use Rattle.tg_text.specs.declared.policy_text.Claim.{Claim}
@@ -115,9 +115,28 @@ policy_line g n lines words = do
 unfoldable pub policy_item : ProtectionGraph → ℕ → List PolicyLineOf → List Word → Result (List PolicyLineOf) TextKind
 policy_item g n lines words = with_item most_policy_lines lines (policy_line g n lines words)
 
--- the lines of a policy over a graph, or the first faulty line and what is wrong with it
+-- whether the claim states who can or can't come to have a right; a group only gathers vertices
+abbrev pub states : Claim → Bool
+states (claim.Group n) = false
+states (claim.Never s) = true
+states (claim.May s) = true
+states (claim.Only s) = true
+
+-- whether one of the lines states something
+abbrev pub has_claim : List PolicyLineOf → Bool
+has_claim lines = list_any (λ line. states line.claim) lines
+
+-- a policy states something; where it does not, the fault is on the line after the last
+abbrev pub with_claim : ℕ → List PolicyLineOf → Result (List PolicyLineOf) (ℕ × TextKind)
+with_claim end lines = if has_claim lines then Ok lines else Err (end, NoClaim)
+
+-- the lines of a text over a graph, whatever they state, or the first faulty line and what is wrong with it
+unfoldable pub policy_lines : ProtectionGraph → List ℕ → Result (List PolicyLineOf) (ℕ × TextKind)
+policy_lines g bytes = after_lines (policy_item g) 1 [] (lines_of bytes)
+
+-- the lines of a policy over a graph, or the first fault
 unfoldable pub policy_text : ProtectionGraph → List ℕ → Result (List PolicyLineOf) (ℕ × TextKind)
-policy_text g bytes = after_lines (policy_item g) 1 [] (lines_of bytes)
+policy_text g bytes = policy_lines g bytes >>= λ lines. with_claim (length (lines_of bytes) + 1) lines
 
 -- ---- what is true of all lines
 

@@ -6,7 +6,7 @@ ghost use Rattle.tg_text.specs.GraphGrammar.{GraphTextsAreThose, GraphFaultsAreF
 ghost use Rattle.tg_text.specs.RuleGrammar.{RuleLinesAreThose, RulesTextsAreThose, RuleFaultsAreFirst};
 ghost use Rattle.tg_text.specs.ScriptGrammar.{ScriptTextsAreThose, ScriptFaultsAreFirst};
 ghost use Rattle.tg_text.specs.PolicyGrammar.{PolicyTextsAreThose, PolicyFaultsAreFirst};
-ghost use Rattle.tg_text.specs.PolicyKinds.{PolicyLineKinds, PolicyTextKinds, PolicyHasTheseKinds};
+ghost use Rattle.tg_text.specs.PolicyKinds.{PolicyLineKinds, PolicyTextKinds, PolicyHasTheseKinds, NoClaimIsStatesNothing};
 ghost use Rattle.tg_text.specs.PolicyTrips.{PoliciesAreReadAsWritten, ReadPoliciesFit};
 ghost use Rattle.tg_text.specs.WordLaws.{LinesExactly, BlanksExactly, WordsExactly, NumberWordsExactly, NumbersAreDecimal};
 ghost use Rattle.tg_text.specs.FaultKinds.{GraphLineKinds, GraphTextKinds, OneRuleKinds, RuleLineKinds, RulesTextKinds, ScriptLineKinds, ScriptTextKinds, NoHeaderIsEndsEarly, GraphHasTheseKinds, OneRuleHasTheseKinds, RulesHaveTheseKinds, ScriptHasTheseKinds};
@@ -35,7 +35,8 @@ pub fn script_grammar()
 {}
 
 /// A text has the lines of a policy over a graph exactly where the grammar gives it these, and a fault
-/// names the first line to which the grammar gives nothing.
+/// names the first line to which the grammar gives nothing, or the line behind the last where no line
+/// states anything.
 pub fn policy_grammar()
     ensures texts { PolicyTextsAreThose }
     ensures faults { PolicyFaultsAreFirst }
@@ -69,7 +70,7 @@ pub fn script_faults_have_the_least_kind()
 {}
 
 /// A line of a policy is refused exactly with the least kind whose condition holds in it, and a text
-/// exactly with its first faulty line and the least kind of that line.
+/// exactly with its first faulty line and the least kind of that line, or where it states nothing.
 pub fn policy_faults_have_the_least_kind()
     ensures lines { PolicyLineKinds }
     ensures texts { PolicyTextKinds }
@@ -80,6 +81,12 @@ pub fn policy_faults_have_the_least_kind()
 /// behind the last.
 pub fn no_header_is_an_early_end()
     ensures { NoHeaderIsEndsEarly }
+{}
+
+/// `NoClaim` comes exactly where no line of a policy is faulty, and none states anything, on the line
+/// behind the last.
+pub fn no_claim_is_a_policy_that_states_nothing()
+    ensures { NoClaimIsStatesNothing }
 {}
 
 /// The lines of a text are those that give it with a line feed behind each, but that the last one,
@@ -129,7 +136,8 @@ pub fn graphs_are_read_as_written()
 {}
 
 /// Lines of a policy that were written are read as they were, on the lines 1, 2 and so on: up to
-/// `MOST_POLICY_LINES` of them, of at most `MOST_LINE_BYTES` bytes each. All that is read of a text is so.
+/// `MOST_POLICY_LINES` of them, of at most `MOST_LINE_BYTES` bytes each, one of which states something.
+/// All that is read of a text is so.
 pub fn policies_are_read_as_written()
     ensures written { PoliciesAreReadAsWritten }
     ensures read { ReadPoliciesFit }

@@ -6,7 +6,7 @@ ghost use Rattle.tg_graph.specs.GraphOf.{graph_of};
 ghost use Rattle.tg_words.specs.Lines.{words_of};
 ghost use Rattle.tg_words.specs.Reading.{Finds, Makes, Reads, with_item};
 ghost use Rattle.tg_words.specs.Spelling.{spaced, line_of};
-ghost use Rattle.tg_text.specs.PolicyText.{PolicyLineOf, line_of_policy, policy_of, operand_at, operands_at, rights_and_operands, said_by_words, lacks_vertex, policy_text, ArePolicyLines};
+ghost use Rattle.tg_text.specs.PolicyText.{PolicyLineOf, line_of_policy, policy_of, states, operand_at, operands_at, rights_and_operands, said_by_words, lacks_vertex, policy_text, ArePolicyLines};
 ghost use Rattle.tg_text.specs.PolicyState.{HasGroupsOf, IsFound, item_over, lacks_name, known_to};
 ghost use Rattle.tg_words.specs.Limits.{most_policy_lines};
 ghost use Rattle.tg_text.specs.PolicyGrammar.{operand_word};
@@ -239,6 +239,23 @@ impl Items for PolicyItems<'_> {
     }
 }
 
+// Whether the claim states who can or can't come to have a right.
+fn states(claim: Claim) -> bool
+    ensures { result ≡ states claim }
+{
+    match claim {
+        Claim::Group(_) => false,
+        Claim::Never(_) | Claim::May(_) | Claim::Only(_) => true,
+    }
+}
+
+// Whether one of the lines does.
+fn has_claim(lines: &[PolicyLine]) -> bool
+    ensures { result ≡ list_any (λ line. states line.claim) lines.now }
+{
+    lines.iter().any(|line| states(line.claim))
+}
+
 /// The lines of a policy over a graph.
 ///
 /// Each operand is a vertex of the graph, or a group that an earlier line made. All seven letters
@@ -246,8 +263,9 @@ impl Items for PolicyItems<'_> {
 ///
 /// `At` names the first faulty line, and the first of these that it has: `LineTooLong`, `BadWord`,
 /// `WordCount`, `BadName`, `BadRights`, `UnknownVertex`, `UnknownGroup`, `TooMany` where there are
-/// `MOST_POLICY_LINES` lines already, groups included. `Memory` is answered where a growth was refused,
-/// whatever stands further on.
+/// `MOST_POLICY_LINES` lines already, groups included. Where no line is faulty, and none states anything,
+/// as where all make groups, it is `NoClaim`, on the line behind the last. `Memory` is answered where a
+/// growth was refused, whatever stands further on.
 pub fn read_policy(alloc: Global, graph: &Graph, text: &[u8]) -> Result<Vec<PolicyLine>, TextFault>
     ensures value { Reads (λ lines. policy_of lines.items) result
         (policy_text (graph_of graph.now) text.now) }
@@ -259,10 +277,17 @@ pub fn read_policy(alloc: Global, graph: &Graph, text: &[u8]) -> Result<Vec<Poli
         groups: BTreeSet::new(alloc),
         lines: Vec::new(alloc),
     };
-    match read_lines(&mut policy, text) {
-        Ok(_) => Ok(policy.lines),
-        Err(fault) => Err(fault),
+    let count = match read_lines(&mut policy, text) {
+        Ok(count) => count,
+        Err(fault) => return Err(fault),
+    };
+    if !has_claim(&policy.lines) {
+        return Err(TextFault::At {
+            line: count + 1,
+            kind: TextKind::NoClaim,
+        });
     }
+    Ok(policy.lines)
 }
 
 // Appends the first two words of a line.

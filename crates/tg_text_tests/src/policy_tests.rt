@@ -96,8 +96,8 @@ fn too_few_or_many_words(rt: HostRuntime) -> Result<(), Fail> {
 fn words_of_each_form(rt: HostRuntime) -> Result<(), Fail> {
     let graph = read_graph(rt.alloc(), GRAPH)?;
     let right: [&[u8]; 7] = [
-        b"group x a",
-        b"group x a b a b",
+        b"group x a\nonly r a",
+        b"group x a b a b\nonly r a",
         b"never r a b",
         b"may r a b",
         b"only r a",
@@ -187,11 +187,23 @@ fn groups_that_are_known(rt: HostRuntime) -> Result<(), Fail> {
     Ok(())
 }
 
+// A policy that states nothing, by the line behind its last.
 #[test]
-fn comments_alone(rt: HostRuntime) -> Result<(), Fail> {
+fn policies_that_state_nothing(rt: HostRuntime) -> Result<(), Fail> {
     let graph = read_graph(rt.alloc(), GRAPH)?;
-    assert!(rt; read_policy(rt.alloc(), &graph, b"")?.is_empty());
-    assert!(rt; read_policy(rt.alloc(), &graph, b"# x\n\n \t\r\n#never r a b")?.is_empty());
+    let rows: [(&[u8], usize, TextKind); 8] = [
+        (b"", 1, TextKind::NoClaim),
+        (b"\n", 2, TextKind::NoClaim),
+        (b"# x\n\n \t\r\n#never r a b", 5, TextKind::NoClaim),
+        (b"group x a", 2, TextKind::NoClaim),
+        (b"group x a\n", 2, TextKind::NoClaim),
+        (b"group x a\ngroup y @x b\n\n", 4, TextKind::NoClaim),
+        (b"group x c\n", 1, TextKind::UnknownVertex),
+        (b"group x a\ngroup y @z\n", 2, TextKind::UnknownGroup),
+    ];
+    for (text, line, kind) in rows {
+        refuses(&rt, rt.alloc(), &graph, text, line, kind);
+    }
     Ok(())
 }
 
@@ -266,7 +278,9 @@ fn policies_are_written(rt: HostRuntime) -> Result<(), Fail> {
     let text = b"group x a\n\nonly daewrgt @x @x a";
     let wanted = b"group x a\nonly tgrwead @x @x a\n";
     written(&rt, rt.alloc(), &graph, text, wanted)?;
-    written(&rt, rt.alloc(), &graph, b"# x\n", b"")?;
+    let text = b"# x\nmay r a b\n# y";
+    written(&rt, rt.alloc(), &graph, text, b"may r a b\n")?;
+    assert!(rt; write_policy(rt.alloc(), &[])?.is_empty());
     Ok(())
 }
 

@@ -32,6 +32,8 @@ pub enum TextKind {
     TooMany,
     /// The text ends before both header lines.
     NoHeader,
+    /// No line of a policy states anything: there are groups at the most.
+    NoClaim,
 }
 
 /// Why a text was not read.
