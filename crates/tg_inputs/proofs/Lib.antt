@@ -2,3 +2,4 @@ pub mod Parting
 pub mod RulesPlayed
 pub mod PlayableScripts
 pub mod KeptEdges
+pub mod MadeReports

@@ -36,11 +36,13 @@ Brings view (Ok x) made = made ≡ Ok (view x)
 Brings view (Err (halt.Refused report)) made = made ≡ Err (report_text report)
 Brings view (Err halt.Memory) made = Unit {0}
 
--- An outcome of the work on a report: one that is made, of which the fact holds, unless there was no memory.
-abbrev pub Makes : (ReportText → Type 0) → Result Report Halt → Type 0
-Makes P (Ok report) = P (report_text report)
-Makes P (Err (halt.Refused report)) = P (report_text report)
-Makes P (Err halt.Memory) = Unit {0}
+-- An outcome of the work on what was read: of a value a report that says of it what it has to, of a fault its report as an error, unless there was no memory.
+abbrev pub Makes : {A : Type 0} → (A → ReportText → Type 0) → Result Report Halt → Result A ReportText → Type 0
+Makes P (Err halt.Memory) reading = Unit {0}
+Makes P (Ok report) (Ok x) = P x (report_text report)
+Makes P (Ok report) (Err fault) = ⊥
+Makes P (Err (halt.Refused report)) (Ok x) = ⊥
+Makes P (Err (halt.Refused report)) (Err fault) = fault ≡ report_text report
 
 abbrev pub question_of : Question → Asked
 question_of q = record { graph = graph_of q.graph; rights = q.rights; x = q.x; y = q.y }

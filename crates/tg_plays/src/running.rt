@@ -4,7 +4,6 @@ ghost use Rattle.tg_graph.specs.GraphOf.{graph_of};
 ghost use Rattle.tg_graph.specs.Limits.{most_vertices};
 ghost use Rattle.tg_text.specs.ScriptText.{script_of};
 ghost use Rattle.tg_hall.specs.Worlds.{opened};
-ghost use Rattle.tg_inputs.specs.Readings.{IsFor};
 ghost use Rattle.tg_plays.specs.Runs.{playing_in, Plays, IsPlayed};
 ghost use Rattle.tg_inputs.specs.Outcomes.{Makes, IsPlayable, IsPlayableScript, report_text};
 ghost use Rattle.tg_plays.specs.RunParts.{PlaysOn};
@@ -85,8 +84,7 @@ fn played(alloc: Global, graph: &Graph, script: &Script) -> Result<Report, Alloc
 ///
 /// The error is the report of the first fault of the two texts, or want of memory.
 pub fn run(alloc: Global, first: &[u8], second: &[u8]) -> Result<Report, Halt>
-    ensures { Makes (IsFor (λ p. IsPlayed p.graph p.script) (playing_in first.now second.now))
-        result }
+    ensures { Makes (λ p. IsPlayed p.graph p.script) result (playing_in first.now second.now) }
 {
     let graph = graph_in(alloc, first)?;
     let script = script_in(alloc, second)?;

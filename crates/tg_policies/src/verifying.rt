@@ -3,7 +3,7 @@ ghost use Rattle.std.specs.Prelude.{◌≡◌, ◌≤◌, IfOk, length};
 ghost use Rattle.tg_graph.specs.GraphOf.{graph_of};
 ghost use Rattle.tg_graph.specs.Limits.{most_vertices};
 ghost use Rattle.tg_text.specs.PolicyText.{policy_of, ArePolicyLines};
-ghost use Rattle.tg_inputs.specs.Readings.{policy_in, IsFor};
+ghost use Rattle.tg_inputs.specs.Readings.{policy_in};
 ghost use Rattle.tg_inputs.specs.Outcomes.{Makes, report_text};
 ghost use Rattle.tg_policies.specs.Policies.{IsVerified, verified_report};
 ghost use Rattle.tg_policies.specs.PolicyParts.{HasTold};
@@ -72,8 +72,7 @@ fn verified(
 ///
 /// The error is the report of the first fault of the two texts, or want of memory.
 pub fn verify(alloc: Global, first: &[u8], second: &[u8], why: bool) -> Result<Report, Halt>
-    ensures { Makes (IsFor (λ p. IsVerified why p.graph p.lines) (policy_in first.now second.now))
-        result }
+    ensures { Makes (λ p. IsVerified why p.graph p.lines) result (policy_in first.now second.now) }
 {
     let graph = graph_in(alloc, first)?;
     let lines = policy_lines_in(alloc, &graph, second)?;

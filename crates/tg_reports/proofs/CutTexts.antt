@@ -19,7 +19,7 @@ use Rattle.tg_text.proofs.RulesBack.{rules-read, skipped-line}
 use Rattle.tg_cuts.proofs.Removed.{cuts-accepted}
 use Rattle.tg_cuts.proofs.OneCut.{cuts-short}
 use Rattle.tg_reports.specs.Reports.{cut_report}
-use Rattle.tg_reports.specs.ReportLaws.{CutsMakeItNo, CutsFit}
+use Rattle.tg_reports.specs.ReportLaws.{CutsMakeItNo, CutTextsMakeItNo, CutsFit}
 use Rattle.tg_reports.proofs.DerivedTexts.{are_rules, same_rules, all_played}
 use Rattle.tg_reports.proofs.CutReports.{asked_read}
 
@@ -47,7 +47,10 @@ text_read rules a l =
     ∙ rules-read 2 [] rules a (omega (arith, l))
 
 pub cuts_make_no : CutsMakeItNo
-cuts_make_no q cut well few is =
+cuts_make_no q cut well is = (cuts-accepted q.graph q.kept cut well is.least_cut.held, is.least_cut.no)
+
+pub cut_texts_make_no : CutTextsMakeItNo
+cut_texts_make_no q cut well few is =
     let accepted : AllAccepted q.graph cut = cuts-accepted q.graph q.kept cut well is.least_cut.held in
     let whole = all_played q.graph 2 cut accepted in
     record {

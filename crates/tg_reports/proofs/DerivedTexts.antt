@@ -24,10 +24,10 @@ use Rattle.tg_text.proofs.SmallGraphs.{graph_is_small}
 use Rattle.tg_text.proofs.Steps.{bind_ok}
 use Rattle.tg_islands.specs.Moves.{only}
 use Rattle.tg_sharing.proofs.Parts.{derivations_of_all_are_short, one_right_alone}
-use Rattle.tg_inputs.specs.Readings.{Question, from_text, graph_in, rights_in, name_in, vertex_in, question_in}
+use Rattle.tg_inputs.specs.Readings.{Question, PolicyOver, from_text, graph_in, rights_in, name_in, vertex_in, question_in, policy_lines_in, policy_in}
 use Rattle.tg_policies.specs.Derived.{derivation_report}
 use Rattle.tg_inputs.specs.Replies.{Played, played_first, played}
-use Rattle.tg_reports.specs.ReportLaws.{rules_of, DerivationsGiveTheRights, ReadDerivationsGiveTheRights, DerivationsBelowGiveTheRight}
+use Rattle.tg_reports.specs.ReportLaws.{rules_of, DerivationsGiveTheRights, ReadDerivationsGiveTheRights, DerivationsBelowGiveTheRight, ReadDerivationsBelowGiveTheRight}
 
 pub are_rules : (g : ProtectionGraph) (rules : List Rule) → AllAccepted g rules → AllByRecursion IsRule rules
 are_rules g [] a = tt
@@ -103,6 +103,16 @@ asked_small first rights x y q e =
 pub derivations_below_give : DerivationsBelowGiveTheRight
 derivations_below_give g right x y rules small derived =
     derivations_give (record { graph = g; rights = only right; x = x; y = y }) rules small ((one_right_alone g right x y rules).1 derived)
+
+policy_small : (first second : List ℕ) (p : PolicyOver) → policy_in first second ≡ Ok p → length p.graph.vertices ≤ most_vertices
+policy_small first second p e =
+    let g = bind_ok (graph_in first) _ p e in
+    let l = bind_ok (policy_lines_in g.0 second) _ p g.2 in
+    let whole : record { graph = g.0; lines = l.0 } ≡ p = cc in
+    subst (λ (q : PolicyOver). length q.graph.vertices ≤ most_vertices) whole (graph_is_small first g.0 (from_read (codes "graph") (graph_text first) g.0 g.1))
+
+pub read_derivations_below_give : ReadDerivationsBelowGiveTheRight
+read_derivations_below_give first second p right x y rules read derived = derivations_below_give p.graph right x y rules (policy_small first second p read) derived
 
 pub read_derivations_give : ReadDerivationsGiveTheRights
 read_derivations_give first rights x y q rules read derived = derivations_give q rules (asked_small first rights x y q read) derived

@@ -1,7 +1,6 @@
 pub mod IslandTests
 pub mod ReportLaws
 pub mod DerivedTexts
-pub mod MadeReports
 pub mod OneReport
 pub mod TableTests
 pub mod WhoTests

@@ -10,7 +10,7 @@ use Rattle.tg_names.specs.Names.{Name, same_name}
 use Rattle.tg_graph.specs.Graphs.{ProtectionGraph, has_vertex, WellFormed}
 use Rattle.tg_graph.specs.Limits.{most_vertices}
 use Rattle.tg_graph.specs.Rules.{refusal_of}
-use Rattle.tg_graph.specs.RuleLists.{CanShare}
+use Rattle.tg_graph.specs.RuleLists.{AllAccepted, after_all, CanShare}
 use Rattle.tg_graph.specs.Additions.{Leads}
 use Rattle.tg_text.specs.declared.rule_text.RuleLine.{RuleLine}
 use Rattle.tg_words.specs.Limits.{most_rules}
@@ -23,7 +23,7 @@ use Rattle.tg_islands.specs.Moves.{only}
 use Rattle.tg_sharing.specs.SetDerivations.{IsDerivationOfAll}
 use Rattle.tg_cuts.specs.Cuts.{IsTheCut}
 use Rattle.tg_inputs.specs.Calls.{CommandWords, Case, Check, Apply, Islands, Share, Derive, Table, Run, Who, Reach, Verify, Cut}
-use Rattle.tg_inputs.specs.Readings.{Question, ReportText, CutQuestion, graph_in, question_in, cut_in}
+use Rattle.tg_inputs.specs.Readings.{Question, ReportText, CutQuestion, PolicyOver, graph_in, question_in, cut_in, policy_in}
 use Rattle.tg_policies.specs.Derived.{derivation_report}
 use Rattle.tg_reports.specs.Reports.{cut_report, check_report, AreIslandLines, TellsSharing, AreWhoLines, who_text, AreReachLines, reach_text, IsReport}
 use Rattle.tg_inputs.specs.Replies.{Played, played}
@@ -61,6 +61,14 @@ ReadDerivationsGiveTheRights = (first rights x y : List ℕ) (q : Question) (rul
 abbrev pub DerivationsBelowGiveTheRight : Type 0
 DerivationsBelowGiveTheRight = (g : ProtectionGraph) (right : Right) (x y : Name) (rules : List Rule) → length g.vertices ≤ most_vertices → IsDerivation g right x y rules → GivesTheRights (record { graph = g; rights = only right; x = x; y = y }) rules
 
+-- and so it can be wherever graph and policy were read
+abbrev pub ReadDerivationsBelowGiveTheRight : Type 0
+ReadDerivationsBelowGiveTheRight = (first second : List ℕ) (p : PolicyOver) (right : Right) (x y : Name) (rules : List Rule) → policy_in first second ≡ Ok p → IsDerivation p.graph right x y rules → GivesTheRights (record { graph = p.graph; rights = only right; x = x; y = y }) rules
+
+-- a cut, however long, is accepted rule by rule, and then the answer is no
+abbrev pub CutsMakeItNo : Type 0
+CutsMakeItNo = (q : CutQuestion) (cut : List Rule) → WellFormed q.graph → IsTheCut q.graph q.right q.x q.y q.kept cut → AllAccepted q.graph cut × (CanShare (after_all q.graph cut) q.right q.x q.y → ⊥)
+
 -- The report is a text of these rules. On the same graph they are carried out whole, and x can't come to have the right then.
 pub record MakesItNo (q : CutQuestion) (cut : List Rule) : Type 0 where
   pub lines : List RuleLine
@@ -70,8 +78,8 @@ pub record MakesItNo (q : CutQuestion) (cut : List Rule) : Type 0 where
   pub no : CanShare (played q.graph lines).end q.right q.x q.y → ⊥
 
 -- a cut that is printed can be applied, if it is no longer than a text of rules may be, and then it makes the answer no
-abbrev pub CutsMakeItNo : Type 0
-CutsMakeItNo = (q : CutQuestion) (cut : List Rule) → WellFormed q.graph → length cut ≤ most_rules → IsTheCut q.graph q.right q.x q.y q.kept cut → MakesItNo q cut
+abbrev pub CutTextsMakeItNo : Type 0
+CutTextsMakeItNo = (q : CutQuestion) (cut : List Rule) → WellFormed q.graph → length cut ≤ most_rules → IsTheCut q.graph q.right q.x q.y q.kept cut → MakesItNo q cut
 
 -- where no edge is kept it is never longer
 abbrev pub CutsFit : Type 0

@@ -1,7 +1,7 @@
 //! Which rights have to go, as rules.
 ghost use Rattle.std.specs.Prelude.{◌≡◌, IfOk, MatchOption, map};
 ghost use Rattle.tg_cuts.specs.Cuts.{IsTheCut, HasNoCut};
-ghost use Rattle.tg_inputs.specs.Readings.{cut_in, IsFor};
+ghost use Rattle.tg_inputs.specs.Readings.{cut_in};
 ghost use Rattle.tg_reports.specs.Reports.{IsCut, no_cut_report, cut_report};
 ghost use Rattle.tg_inputs.specs.Outcomes.{Makes, report_text, cut_question_of, IsCuttable};
 ghost use Rattle.tg_reports.specs.ReportParts.{cut_text};
@@ -85,8 +85,8 @@ pub(crate) fn cut(
     y: &str,
     kept: &[&str],
 ) -> Result<Report, Halt>
-    ensures { Makes (IsFor IsCut
-        (cut_in first.now right.now x.now y.now (map (λ word. word.now) kept.now))) result }
+    ensures { Makes IsCut result
+        (cut_in first.now right.now x.now y.now (map (λ word. word.now) kept.now)) }
 {
     let question = cut_in(alloc, first, right, x, y, kept)?;
     let report = report_of(alloc, &question)?;

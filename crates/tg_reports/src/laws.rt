@@ -1,5 +1,5 @@
 //! Laws of the reports. Each function does nothing: its contract is the law.
-ghost use Rattle.tg_reports.specs.ReportLaws.{CanonicalTextsStay, CutsFit, CutsMakeItNo, DerivationsBelowGiveTheRight, DerivationsGiveTheRights, IslandsAreLines, ReachIsARow, ReadDerivationsGiveTheRights, RulesStopAtRefusal, ThereIsOneReport, WhoIsAColumn};
+ghost use Rattle.tg_reports.specs.ReportLaws.{CanonicalTextsStay, CutTextsMakeItNo, CutsFit, CutsMakeItNo, DerivationsBelowGiveTheRight, DerivationsGiveTheRights, IslandsAreLines, ReachIsARow, ReadDerivationsBelowGiveTheRight, ReadDerivationsGiveTheRights, RulesStopAtRefusal, ThereIsOneReport, WhoIsAColumn};
 ghost use Rattle.tg_policies.specs.Policies.{KeptExactly, VerdictsAreOne};
 
 use tg_text::laws::equal_graphs_have_one_text;
@@ -18,15 +18,19 @@ pub fn derivations_give_the_rights()
 {}
 
 /// Rules that stand below a line of a policy, on a graph of at most `MOST_VERTICES`, are a text of rules:
-/// carried out on the same graph, none is refused, and they give the right that breaks the line.
+/// carried out on the same graph, none is refused, and they give the right that breaks the line. So it is
+/// wherever graph and policy were read from texts.
 pub fn derivations_below_give_the_right()
-    ensures { DerivationsBelowGiveTheRight }
+    ensures small { DerivationsBelowGiveTheRight }
+    ensures read { ReadDerivationsBelowGiveTheRight }
 {}
 
-/// The report of a cut is a text of its rules, if they are no more than a text may have: carried out on the same
-/// graph, none is refused, and x can't come to have the right then. Without kept edges they are never more.
+/// The rules of a cut, however many, are accepted in turn, and x can't come to have the right then. The report of
+/// a cut is a text of its rules, if they are no more than a text may have: carried out on the same graph, none is
+/// refused, and x can't come to have the right then. Without kept edges they are never more.
 pub fn cuts_make_it_no()
     ensures no { CutsMakeItNo }
+    ensures texts { CutTextsMakeItNo }
     ensures fit { CutsFit }
 {}
 

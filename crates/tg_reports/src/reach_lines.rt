@@ -5,7 +5,7 @@ ghost use Rattle.tg_graph.specs.GraphOf.{graph_of};
 ghost use Rattle.tg_graph.specs.Graphs.{has_vertex};
 ghost use Rattle.tg_names.specs.Letters.{letters_among};
 ghost use Rattle.tg_analysis.specs.Reaching.{TellReach};
-ghost use Rattle.tg_inputs.specs.Readings.{reach_in, IsFor};
+ghost use Rattle.tg_inputs.specs.Readings.{reach_in};
 ghost use Rattle.tg_reports.specs.Reports.{AreReachLines, reach_line};
 ghost use Rattle.tg_inputs.specs.Outcomes.{Makes, report_text, reach_question_of};
 ghost use Rattle.tg_reports.specs.ReportParts.{set_of_name, reached_text};
@@ -98,7 +98,7 @@ fn reach_report(alloc: Global, question: &ReachQuestion) -> Result<Report, Alloc
 
 /// The report of a question: each vertex over which x can come to have some right, with their letters.
 pub(crate) fn reach(alloc: Global, first: &[u8], x: &str) -> Result<Report, Halt>
-    ensures { Makes (IsFor AreReachLines (reach_in first.now x.now)) result }
+    ensures { Makes AreReachLines result (reach_in first.now x.now) }
 {
     let question = reach_in(alloc, first, x)?;
     let report = reach_report(alloc, &question)?;

@@ -1,7 +1,7 @@
 //! Reports on protection graphs.
 ghost use Rattle.std.specs.Prelude.{IfOk};
 ghost use Rattle.tg_inputs.specs.Calls.{command_words};
-ghost use Rattle.tg_inputs.specs.Readings.{graph_in, IsFor};
+ghost use Rattle.tg_inputs.specs.Readings.{graph_in};
 ghost use Rattle.tg_reports.specs.Reports.{check_report, apply_report, IsReport, AreIslandLines};
 ghost use Rattle.tg_inputs.specs.Parts.{graph_part, rules_part};
 ghost use Rattle.tg_inputs.specs.Outcomes.{Brings, Makes, report_text};
@@ -44,7 +44,7 @@ fn check_over(first: Vec<u8>) -> Result<Report, Halt>
 }
 
 fn islands_of(alloc: Global, first: &[u8]) -> Result<Report, Halt>
-    ensures { Makes (IsFor AreIslandLines (graph_in first.now)) result }
+    ensures { Makes AreIslandLines result (graph_in first.now) }
 {
     let graph = graph_in(alloc, first)?;
     let report = islands_report(alloc, &graph)?;

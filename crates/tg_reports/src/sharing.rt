@@ -1,6 +1,6 @@
 //! Questions about sharing.
 ghost use Rattle.std.specs.Prelude.{◌≡◌, IfOk};
-ghost use Rattle.tg_inputs.specs.Readings.{question_in, IsFor};
+ghost use Rattle.tg_inputs.specs.Readings.{question_in};
 ghost use Rattle.tg_reports.specs.Reports.{IsAnswer, IsDerived};
 ghost use Rattle.tg_policies.specs.Derived.{derivation_report};
 ghost use Rattle.tg_inputs.specs.Outcomes.{Makes, report_text, question_of, IsAskable};
@@ -48,7 +48,7 @@ pub(crate) fn share(
     x: &str,
     y: &str,
 ) -> Result<Report, Halt>
-    ensures { Makes (IsFor IsAnswer (question_in first.now rights.now x.now y.now)) result }
+    ensures { Makes IsAnswer result (question_in first.now rights.now x.now y.now) }
 {
     let question = question_in(alloc, first, rights, x, y)?;
     let report = answer(alloc, &question)?;
@@ -89,7 +89,7 @@ pub(crate) fn derive(
     x: &str,
     y: &str,
 ) -> Result<Report, Halt>
-    ensures { Makes (IsFor IsDerived (question_in first.now rights.now x.now y.now)) result }
+    ensures { Makes IsDerived result (question_in first.now rights.now x.now y.now) }
 {
     let question = question_in(alloc, first, rights, x, y)?;
     let report = derived(alloc, &question)?;

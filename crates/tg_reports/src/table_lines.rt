@@ -3,7 +3,7 @@ ghost use Rattle.std.specs.Prelude.{◌≡◌, ◌++◌, ◌∷◌, map, IfOk, O
 ghost use Rattle.std.specs.Map.{keys_of};
 ghost use Rattle.tg_graph.specs.GraphOf.{graph_of};
 ghost use Rattle.tg_analysis.specs.Tables.{IsPairTable};
-ghost use Rattle.tg_inputs.specs.Readings.{table_in, IsFor};
+ghost use Rattle.tg_inputs.specs.Readings.{table_in};
 ghost use Rattle.tg_reports.specs.Reports.{AreTableLines};
 ghost use Rattle.tg_inputs.specs.Outcomes.{Makes, report_text, table_question_of, IsTableWork};
 ghost use Rattle.tg_reports.specs.ReportParts.{placed, digit_at, placed_line, placed_text};
@@ -136,7 +136,7 @@ pub(crate) fn table<R: Threads + Sync>(
     right: &str,
     workers: u64,
 ) -> Result<Report, Halt>
-    ensures { Makes (IsFor AreTableLines (table_in first.now right.now workers)) result }
+    ensures { Makes AreTableLines result (table_in first.now right.now workers) }
 {
     let work = table_in(alloc, first, right, workers)?;
     let report = table_report(rt, alloc, &work)?;

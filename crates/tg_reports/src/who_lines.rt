@@ -4,7 +4,7 @@ ghost use Rattle.std.specs.Map.{keys_of};
 ghost use Rattle.tg_graph.specs.GraphOf.{graph_of};
 ghost use Rattle.tg_graph.specs.Graphs.{has_vertex};
 ghost use Rattle.tg_analysis.specs.Reaching.{TellWho};
-ghost use Rattle.tg_inputs.specs.Readings.{who_in, IsFor};
+ghost use Rattle.tg_inputs.specs.Readings.{who_in};
 ghost use Rattle.tg_reports.specs.Reports.{AreWhoLines, name_line};
 ghost use Rattle.tg_inputs.specs.Outcomes.{Makes, report_text, who_question_of};
 ghost use Rattle.tg_reports.specs.ReportParts.{is_marked_name, marked_text};
@@ -81,7 +81,7 @@ fn who_report(alloc: Global, question: &WhoQuestion) -> Result<Report, AllocErro
 
 /// The report of a question: who can come to have each of the rights over y, one name a line.
 pub(crate) fn who(alloc: Global, first: &[u8], rights: &str, y: &str) -> Result<Report, Halt>
-    ensures { Makes (IsFor AreWhoLines (who_in first.now rights.now y.now)) result }
+    ensures { Makes AreWhoLines result (who_in first.now rights.now y.now) }
 {
     let question = who_in(alloc, first, rights, y)?;
     let report = who_report(alloc, &question)?;
