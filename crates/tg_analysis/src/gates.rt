@@ -1,9 +1,9 @@
-//! What a worker passes before it computes.
+//! What a thread passes before it does its part.
 
-/// What a worker passes before it computes its block of rows.
+/// What a thread passes before it does its part of some work, as a block of a table's rows.
 pub trait Gate: Sync {
-    /// Called once for each block, by the worker of the block, before it computes.
-    fn enter(&self, block: usize);
+    /// Called once for each part, with its number, by whoever does it, before it begins.
+    fn enter(&self, part: usize);
 }
 
 /// The gate that holds nobody up.
@@ -11,5 +11,5 @@ pub trait Gate: Sync {
 pub struct OpenGate;
 
 impl Gate for OpenGate {
-    fn enter(&self, _block: usize) {}
+    fn enter(&self, _part: usize) {}
 }

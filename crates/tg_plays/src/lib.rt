@@ -8,6 +8,6 @@ mod running;
 mod turns;
 
 pub use outcome_lines::LONGEST_LINE;
-pub use racing::{make_room_in_race, race};
+pub use racing::{make_room_in_race, race, race_through};
 pub use running::{make_room_in_run, run};
 pub use turns::Player;

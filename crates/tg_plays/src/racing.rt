@@ -5,7 +5,6 @@ ghost use Rattle.tg_graph.specs.Limits.{most_vertices};
 ghost use Rattle.tg_text.specs.ScriptText.{script_of};
 ghost use Rattle.tg_hall.specs.Acts.{IsStageableAct};
 ghost use Rattle.tg_store.specs.Running.{IsOf, IsSeat, GoesOn, PutsNothing, first_seat};
-ghost use Rattle.tg_inputs.specs.Readings.{IsFor};
 ghost use Rattle.tg_plays.specs.Runs.{playing_in};
 ghost use Rattle.tg_inputs.specs.Outcomes.{Makes, IsPlayableScript, report_text};
 ghost use Rattle.tg_plays.specs.Races.{seat_at, events_of, graph_report, IsRaced, IsRaceReport};
@@ -17,6 +16,7 @@ use crate::turns::{Player, turn};
 use std::alloc::{AllocError, Global};
 use std::thread;
 use std::thread::Threads;
+use tg_analysis::{Gate, OpenGate};
 use tg_graph::Graph;
 use tg_inputs::{Halt, Report, graph_in, script_in};
 use tg_store::{Seat, Store, StoreFault, StoreMeetFault};
@@ -80,9 +80,10 @@ fn play_if_own(
     }
 }
 
-// Has a seat play its own events in turn. A session that is left open is given up.
-fn play_seat(
+// Has a seat play its own events in turn, once it was let in. A session that is left open is given up.
+fn play_seat<G: Gate>(
     alloc: Global,
+    gate: &G,
     store: &Store,
     seat: Seat,
     events: &[ScriptLine],
@@ -93,6 +94,7 @@ fn play_seat(
 {
     let mut text = Vec::new(alloc);
     let number = seat.number();
+    gate.enter(number as usize);
     let mut player = Player::Free(seat);
     for event in events {
         player = play_if_own(&mut text, store, player, number, event)?;
@@ -104,9 +106,10 @@ fn play_seat(
 }
 
 // Has each seat play its own events, in a thread of its own where one can be started.
-fn play_all<R: Threads + Sync>(
+fn play_all<R: Threads + Sync, G: Gate>(
     rt: &R,
     alloc: Global,
+    gate: &G,
     store: &Store,
     seats: Vec<Seat>,
     events: &[ScriptLine],
@@ -119,7 +122,7 @@ fn play_all<R: Threads + Sync>(
     let play = |seat: Seat| -> Result<Finished, AllocError>
         requires { IsOf store.now seat × AreStageable events.now }
         ensures { IfOk result (IsFinished events.entry.now seat) }
-    { play_seat(alloc, store, seat, events) };
+    { play_seat(alloc, gate, store, seat, events) };
     thread::map_vec(rt, seats, &play)
 }
 
@@ -243,9 +246,10 @@ fn store_for(
 }
 
 // The report of a race of a script's seats over a graph.
-fn raced<R: Threads + Sync>(
+fn raced<R: Threads + Sync, G: Gate>(
     rt: &R,
     alloc: Global,
+    gate: &G,
     graph: &Graph,
     script: &Script,
 ) -> Result<Report, AllocError>
@@ -255,25 +259,25 @@ fn raced<R: Threads + Sync>(
         (λ report. IsRaced (graph_of graph.now) (script_of script.now) (report_text report)) }
 {
     let (store, seats) = store_for(alloc, graph, script)?;
-    let results = play_all(rt, alloc, &store, seats, &script.lines)?;
+    let results = play_all(rt, alloc, gate, &store, seats, &script.lines)?;
     let (text, seats) = gather(alloc, results)?;
     let report = end_race(&store, text, seats)?;
     Ok(report)
 }
 
 // The report of a race for its texts, or the report of the first fault.
-fn race_of<R: Threads + Sync>(
+fn race_of<R: Threads + Sync, G: Gate>(
     rt: &R,
     alloc: Global,
+    gate: &G,
     first: &[u8],
     second: &[u8],
 ) -> Result<Report, Halt>
-    ensures { Makes (IsFor (λ p. IsRaced p.graph p.script) (playing_in first.now second.now))
-        result }
+    ensures { Makes (λ p. IsRaced p.graph p.script) result (playing_in first.now second.now) }
 {
     let graph = graph_in(alloc, first)?;
     let script = script_in(alloc, second)?;
-    let report = raced(rt, alloc, &graph, &script)?;
+    let report = raced(rt, alloc, gate, &graph, &script)?;
     Ok(report)
 }
 
@@ -291,7 +295,20 @@ pub fn race<R: Threads + Sync + AllocGlobal>(
 ) -> Result<Report, AllocError>
     ensures { IfOk result (λ report. IsRaceReport first.now second.now (report_text report)) }
 {
-    match race_of(rt, rt.alloc(), first, second) {
+    race_through(rt, &OpenGate, first, second)
+}
+
+/// What [`race`] says, where each seat passes the gate once before its first event, with its own number, in the
+/// thread that plays it. Tests see by it that seats play at once.
+pub fn race_through<R: Threads + Sync + AllocGlobal, G: Gate>(
+    rt: &R,
+    gate: &G,
+    first: &[u8],
+    second: &[u8],
+) -> Result<Report, AllocError>
+    ensures { IfOk result (λ report. IsRaceReport first.now second.now (report_text report)) }
+{
+    match race_of(rt, rt.alloc(), gate, first, second) {
         Ok(report) => Ok(report),
         Err(Halt::Refused(report)) => Ok(report),
         Err(Halt::Memory) => Err(AllocError),

@@ -129,7 +129,7 @@ fn what_a_seat_has_taken(rt: HostRuntime) -> Result<(), Fail> {
     Ok(())
 }
 
-// Three questions that no edge answers are enough for a session to keep what they found.
+// Three questions that no edge answers are enough for a session to keep what they found, until it is given up.
 #[test]
 fn three_questions_are_kept(rt: HostRuntime) -> Result<(), Fail> {
     let mut hall = hall_of_three(&rt, rt.alloc(), 4, 1)?;
@@ -141,5 +141,9 @@ fn three_questions_are_kept(rt: HostRuntime) -> Result<(), Fail> {
     ];
     events(&rt, &mut hall, &rows);
     assert!(rt; hall.knows_any());
+    assert!(rt; hall.give_up_known());
+    assert!(rt; !hall.knows_any());
+    assert!(rt; !hall.give_up_known());
+    events(&rt, &mut hall, &[(1, Share(Right::W, *b"ac"), No)]);
     Ok(())
 }

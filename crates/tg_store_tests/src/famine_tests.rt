@@ -7,6 +7,7 @@ use crate::scripts::Word::{
 };
 use crate::scripts::{Row, event_of, reply_of};
 use crate::test_helpers::{acts, events, hall_of_three};
+use std::alloc::{AllocError, Global};
 use std::process;
 use std::test::Fail;
 use tg_graph::Right;
@@ -135,9 +136,16 @@ fn refused_alike(rt: &impl process::Abort, first: &mut Hall, second: &mut Hall, 
     }
 }
 
+// Whether there is memory: then none was refused so far.
+fn has_memory(alloc: Global) -> bool {
+    let spare: Result<Vec<u8>, AllocError> = Vec::with_capacity(alloc, 1);
+    spare.is_ok()
+}
+
 // Whether a hall's session has asked three questions, where memory was not refused for them, and knows
-// something, or has given it up and knows nothing.
-fn asked(rt: &impl process::Abort, hall: &mut Hall, knows: bool) -> bool {
+// something, or has given it up. It knows something where none was refused at all, and nothing once it has
+// given up.
+fn asked(rt: &impl process::Abort, alloc: Global, hall: &mut Hall, knows: bool) -> bool {
     let rows = [
         (1, Begin, Done),
         (1, Share(Right::W, *b"ac"), No),
@@ -147,8 +155,10 @@ fn asked(rt: &impl process::Abort, hall: &mut Hall, knows: bool) -> bool {
     if !is_set_up(rt, hall, &rows) {
         return false;
     }
+    assert!(rt; hall.knows_any() || !has_memory(alloc));
     if !knows {
         hall.give_up_known();
+        assert!(rt; !hall.knows_any());
     }
     hall.knows_any() == knows
 }
@@ -163,7 +173,7 @@ fn a_session_that_knows_after_one_that_does_not(rt: HostRuntime) -> Result<(), F
         (1, Remove(*b"bc", b"r"), Did),
         (1, PutOnce, Put(0)),
     ];
-    if asked(&rt, &mut knowing, true) && asked(&rt, &mut other, false) {
+    if asked(&rt, rt.alloc(), &mut knowing, true) && asked(&rt, rt.alloc(), &mut other, false) {
         refused_alike(&rt, &mut other, &mut knowing, &rows);
     }
     Ok(())
@@ -183,7 +193,7 @@ fn a_session_that_knows_before_one_that_does_not(rt: HostRuntime) -> Result<(), 
         (1, Remove(*b"bc", b"r"), Did),
         (1, PutOnce, Put(0)),
     ];
-    if asked(&rt, &mut knowing, true) && asked(&rt, &mut other, false) {
+    if asked(&rt, rt.alloc(), &mut knowing, true) && asked(&rt, rt.alloc(), &mut other, false) {
         refused_alike(&rt, &mut knowing, &mut other, &rows);
     }
     Ok(())

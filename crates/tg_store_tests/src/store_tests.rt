@@ -61,6 +61,47 @@ fn seats_that_meet(rt: HostRuntime) -> Result<(), Fail> {
     Ok(())
 }
 
+// Each row of the seat's graph is its own: no other graph has it.
+fn owns_its_rows(rt: &impl process::Abort, seat: &Seat) {
+    let graph = seat.graph();
+    for position in 0..graph.len() {
+        assert!(rt; graph.row_owners(position) == Some(1));
+    }
+}
+
+// Seats share no row, neither from the start nor once each has taken in what the other has put.
+#[test]
+fn seats_share_no_rows(rt: HostRuntime) -> Result<(), Fail> {
+    let g = graph(&rt, rt.alloc(), b"abc", &[*b"abt", *b"bcr"])?;
+    let (store, one, two) = opened(rt.alloc(), &g, 4)?;
+    owns_its_rows(&rt, &one);
+    owns_its_rows(&rt, &two);
+    let mut desk = Desk::new(store, one, two);
+    desk.play(
+        &rt,
+        &[
+            (1, Begin, Done),
+            (1, Take(*b"abc", b"r"), Did),
+            (1, Commit, Put(0)),
+        ],
+    );
+    desk.meet(&rt);
+    desk.play(
+        &rt,
+        &[
+            (2, Begin, Done),
+            (2, Take(*b"abc", b"r"), Did),
+            (2, Commit, Put(1)),
+        ],
+    );
+    desk.play(&rt, &[(1, Begin, Done), (1, Abort, Done)]);
+    assert!(rt; desk.seat(&rt, 1).taken() == 2);
+    assert!(rt; desk.seat(&rt, 2).taken() == 2);
+    owns_its_rows(&rt, desk.seat(&rt, 1));
+    owns_its_rows(&rt, desk.seat(&rt, 2));
+    Ok(())
+}
+
 // The letter and the number, below 100, in decimal.
 fn lettered(letter: u8, number: u8) -> Option<Name> {
     let (tens, ones) = (b'0' + number / 10 % 10, b'0' + number % 10);

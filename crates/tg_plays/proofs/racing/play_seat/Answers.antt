@@ -3,7 +3,7 @@ use Rattle.tg_plays.proofs.RaceTurns.{played-more, turn_if-still_of}
 use Rattle.tg_plays.proofs.racing.play_seat.Goals as goal
 
 pub loop-event-preserved : goal.loop-event-preserved
-loop-event-preserved c =
+loop-event-preserved g c =
     let now = c.loop-event in
     let number = c.number-number.result in
     let event = c.event-item.result in
