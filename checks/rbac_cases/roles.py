@@ -189,6 +189,23 @@ def kubernetes_questions():
         )
 
 
+def controller_questions():
+    """A cluster whose controllers and administrators are left out, as docs/RBAC.md has it."""
+    controller = "serviceaccounts kube-system/namespace-controller"
+    items = [*kubernetes_roles(), account("kube-system/namespace-controller"), account("n/default")]
+    items += [secret("n/key"), binding("cluster-admin", "groups system:masters")]
+    items += may(controller, "delete deletecollection get list", "*")
+    trusted = ("groups system:masters", "serviceaccounts kube-system/*")
+    for role, letters in {"edit": "rd", "view": ""}.items():
+        yield Question(
+            f"who is bound to {role} where the controllers run, which are left out",
+            [*items, binding(role, ANN, place="kube-system"), binding("view", BOB)],
+            {("r", ANN, KEY): "yes" if letters else "no", ("r", BOB, KEY): "no"},
+            trusted,
+            held={(ANN, KEY): letters, (BOB, KEY): "", (BOB, "configmaps *"): "r"},
+        )
+
+
 def mount_questions():
     """Pods, and the configmaps of their namespace or of all."""
     pods = [account("n/default"), account("m/default"), *may(ANN, "create", "pods")]
@@ -258,6 +275,7 @@ ROLE_QUESTIONS = (
     aggregation_questions,
     circle_questions,
     kubernetes_questions,
+    controller_questions,
 )
 
 
