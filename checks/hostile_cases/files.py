@@ -76,8 +76,9 @@ def large_files(files, good, name):
     long_line = b"x" * 257
     yield Bad("of 67,108,864 bytes", files.path(f"{name}_full"), text=good)
     feeds = files.path("line_feeds")
-    if name == "script":
-        last = b"refused script line 67108865 no-header\n"
+    ends = {"script": b"no-header", "policy": b"no-claim"}
+    if name in ends:
+        last = b"refused %s line 67108865 %s\n" % (name.encode(), ends[name])
         yield Bad("of 67,108,864 line feeds", feeds, line=last)
     else:
         yield Bad("of 67,108,864 line feeds", feeds, text=b"")
