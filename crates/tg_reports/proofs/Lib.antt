@@ -11,3 +11,4 @@ pub mod SameLines
 pub mod ReadGraphs
 pub mod CutReports
 pub mod CutTexts
+pub mod KeptPolicies

@@ -15,6 +15,7 @@ use Rattle.tg_graph.specs.Additions.{Leads}
 use Rattle.tg_text.specs.declared.rule_text.RuleLine.{RuleLine}
 use Rattle.tg_words.specs.Limits.{most_rules}
 use Rattle.tg_text.specs.RuleText.{rules_text}
+use Rattle.tg_text.specs.PolicyText.{has_claim}
 use Rattle.tg_text.specs.Canonical.{canonical_text, in_name_order}
 use Rattle.tg_words.specs.Spelling.{line_of}
 use Rattle.tg_islands.specs.Sharing.{InOneIsland}
@@ -25,6 +26,7 @@ use Rattle.tg_cuts.specs.Cuts.{IsTheCut}
 use Rattle.tg_inputs.specs.Calls.{CommandWords, Case, Check, Apply, Islands, Share, Derive, Table, Run, Who, Reach, Verify, Cut}
 use Rattle.tg_inputs.specs.Readings.{Question, ReportText, CutQuestion, PolicyOver, graph_in, question_in, cut_in, policy_in}
 use Rattle.tg_policies.specs.Derived.{derivation_report}
+use Rattle.tg_policies.specs.Policies.{no_members, AllHold, IsKept}
 use Rattle.tg_reports.specs.Reports.{cut_report, check_report, AreIslandLines, TellsSharing, AreWhoLines, who_text, AreReachLines, reach_text, IsReport}
 use Rattle.tg_inputs.specs.Replies.{Played, played}
 
@@ -68,6 +70,17 @@ ReadDerivationsBelowGiveTheRight = (first second : List ℕ) (p : PolicyOver) (r
 -- a cut, however long, is accepted rule by rule, and then the answer is no
 abbrev pub CutsMakeItNo : Type 0
 CutsMakeItNo = (q : CutQuestion) (cut : List Rule) → WellFormed q.graph → IsTheCut q.graph q.right q.x q.y q.kept cut → AllAccepted q.graph cut × (CanShare (after_all q.graph cut) q.right q.x q.y → ⊥)
+
+-- The texts have a policy over a graph. One of its lines states something, and each holds by the groups that the lines above it made.
+pub record KeepsItsPolicy (first second : List ℕ) : Type 0 where
+  pub policy : PolicyOver
+  pub read : policy_in first second ≡ Ok policy
+  pub claim : has_claim policy.lines ≡ true
+  pub holds : AllHold policy.graph no_members policy.lines
+
+-- a report of `verify` ends with `kept` for such texts alone
+abbrev pub KeptPoliciesHold : Type 0
+KeptPoliciesHold = (why : Bool) (first second : List ℕ) (report : ReportText) → IsReport (Verify why) first second report → IsKept report → KeepsItsPolicy first second
 
 -- The report is a text of these rules. On the same graph they are carried out whole, and x can't come to have the right then.
 pub record MakesItNo (q : CutQuestion) (cut : List Rule) : Type 0 where

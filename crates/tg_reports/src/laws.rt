@@ -1,5 +1,5 @@
 //! Laws of the reports. Each function does nothing: its contract is the law.
-ghost use Rattle.tg_reports.specs.ReportLaws.{CanonicalTextsStay, CutTextsMakeItNo, CutsFit, CutsMakeItNo, DerivationsBelowGiveTheRight, DerivationsGiveTheRights, IslandsAreLines, ReachIsARow, ReadDerivationsBelowGiveTheRight, ReadDerivationsGiveTheRights, RulesStopAtRefusal, ThereIsOneReport, WhoIsAColumn};
+ghost use Rattle.tg_reports.specs.ReportLaws.{CanonicalTextsStay, CutTextsMakeItNo, CutsFit, CutsMakeItNo, DerivationsBelowGiveTheRight, DerivationsGiveTheRights, IslandsAreLines, KeptPoliciesHold, ReachIsARow, ReadDerivationsBelowGiveTheRight, ReadDerivationsGiveTheRights, RulesStopAtRefusal, ThereIsOneReport, WhoIsAColumn};
 ghost use Rattle.tg_policies.specs.Policies.{KeptExactly, VerdictsAreOne};
 
 use tg_text::laws::equal_graphs_have_one_text;
@@ -64,8 +64,11 @@ pub fn reach_is_a_row()
 {}
 
 /// A report of a policy ends with `kept`, and has status 0, exactly where each line holds by the groups that
-/// the lines above it made; and the verdicts on the lines are the same whether derivations are told or not.
+/// the lines above it made; and the verdicts on the lines are the same whether derivations are told or not. A
+/// report of two texts ends with `kept` only where the second is a policy over the graph of the first, and
+/// some line of it states something.
 pub fn kept_where_each_line_holds()
     ensures kept { KeptExactly }
+    ensures read { KeptPoliciesHold }
     ensures one { VerdictsAreOne }
 {}
