@@ -5,12 +5,12 @@ use Rattle.std.proofs.lemmas.List.{get_or_append_left, length-append}
 use Rattle.std.proofs.Math.Nat.{mul-div_cancel_left, zero-div, zero-mul, le-div_iff_mul-le, div-mul-le_self, div-le_of_le-mul, mul-le-mul, mul-le-mul_right}
 use Rattle.std.proofs.Math.Seq.{get_or-append_seam}
 use Rattle.tg_names.specs.declared.right_sets.Right.{Right}
-use Rattle.tg_graph.specs.Limits.{most_vertices}
+use Rattle.tg_graph.specs.Limits.{most_vertices, most_workers}
 use Rattle.tg_rows.specs.Rows.{Entries}
 use Rattle.tg_islands.specs.Numbering.{AreCounted}
 use Rattle.tg_analysis.specs.Holdings.{JoinsHoldings}
 use Rattle.tg_analysis.specs.Gathered.{Gathers}
-use Rattle.tg_analysis.specs.Tables.{most_workers, block_start, AreBlocks}
+use Rattle.tg_analysis.specs.Tables.{block_start, AreBlocks}
 use Rattle.tg_analysis.proofs.Gathered.{gathers-none, gathers-joined}
 
 pub product_fits : (block count : ℕ) → block ≤ most_workers → count ≤ most_vertices → block * count < 2 ^ 64

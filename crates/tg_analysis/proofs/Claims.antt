@@ -10,9 +10,10 @@ use Rattle.tg_names.specs.declared.right_sets.Rights.{Rights}
 use Rattle.tg_names.specs.Sets.{member, nothing, bit_of, IsNamed}
 use Rattle.tg_names.specs.Names.{Name}
 use Rattle.tg_analysis.specs.declared.cases.Claimed.{Claimed}
-use Rattle.tg_analysis.specs.declared.held.Held.{Held}
+use Rattle.tg_index.specs.declared.by_target.Held.{Held}
 use Rattle.tg_islands.specs.Numbering.{AreCounted, number_of}
-use Rattle.tg_analysis.specs.Cases.{AreHeads, AreNumbersOf, IsClaim, IsClaimOf, IsClaimWithout, IsFirstInBoth, IsFirstWithout, IsLackOf, IsSaid, IsSoonest, IsSooner, IsWithout, JoinsUpTo, place_at, rights_under, sooner_of}
+use Rattle.tg_index.specs.HeldInto.{IsSaid}
+use Rattle.tg_analysis.specs.Cases.{AreHeads, AreNumbersOf, IsClaim, IsClaimOf, IsClaimWithout, IsFirstInBoth, IsFirstWithout, IsLackOf, IsSoonest, IsSooner, IsWithout, JoinsUpTo, place_at, rights_under, sooner_of}
 use Rattle.tg_islands.proofs.RowEnds.{behind-is, behind-keeps, behind-last}
 use Rattle.tg_analysis.proofs.Reached.{nothing-has}
 use Rattle.tg_analysis.proofs.NumberKeys.{apart}

@@ -15,12 +15,13 @@ use Rattle.tg_graph.proofs.Positions.{at-position}
 use Rattle.tg_analysis.specs.declared.cases.Case.{Case}
 use Rattle.tg_analysis.specs.declared.cases.Claimed.{Claimed}
 use Rattle.tg_analysis.specs.declared.cases.Spot.{Spot}
-use Rattle.tg_analysis.specs.declared.held.Held.{Held}
+use Rattle.tg_index.specs.declared.by_target.Held.{Held}
 use Rattle.tg_islands.specs.Sharing.{SharedExactly}
 use Rattle.tg_islands.specs.Numbering.{AreIslands, number_of}
-use Rattle.tg_analysis.specs.ByTarget.{Listed, AreListed, Leads}
-use Rattle.tg_analysis.specs.Cases.{IsSooner, IsCase, FindsFirst, IsSoonest, CannotShare, StandsAt, ArePlaces, IsFirstBeyond, IsSaid, IsClaim, IsLackOf, place_at, AreNumbersOf, AreNumbersAt, AreHeads}
-use Rattle.tg_analysis.proofs.ByTarget.{index-exact}
+use Rattle.tg_index.specs.ByTarget.{Listed, AreListed, Leads}
+use Rattle.tg_index.specs.HeldInto.{IsSaid}
+use Rattle.tg_analysis.specs.Cases.{IsSooner, IsCase, FindsFirst, IsSoonest, CannotShare, StandsAt, ArePlaces, IsFirstBeyond, IsClaim, IsLackOf, place_at, AreNumbersOf, AreNumbersAt, AreHeads}
+use Rattle.tg_index.proofs.ByTarget.{index-exact}
 use Rattle.tg_islands.proofs.RowEnds.{behind-is}
 use Rattle.tg_analysis.proofs.CaseOrder.{soonest-same, IsFirstSpot}
 

@@ -1,6 +1,5 @@
 pub mod JoinedHoldings
 pub mod Gathered
-pub mod ByTarget
 pub mod Reached
 pub mod NumberKeys
 pub mod CaseOrder

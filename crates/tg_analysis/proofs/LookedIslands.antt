@@ -2,7 +2,7 @@
 use Rattle.std.proofs.Common.{◌≡◌, ℕ, ◌<◌, ◌≤◌, ◌+◌, Bool, true, false, List, set, replicate, Option, Some, None, length, slice_get, sym, ap, subst, ◌∙◌, arith, true≢false, inl, inr, ◌⊎◌}
 use Rattle.std.proofs.lemmas.Bool.{cases_eq, cases_lt}
 use Rattle.std.proofs.lemmas.List.{get_or-set_same, get_or-set_other, get_or-replicate, get_or_past, length-replicate}
-use Rattle.tg_analysis.specs.declared.held.Held.{Held}
+use Rattle.tg_index.specs.declared.by_target.Held.{Held}
 use Rattle.tg_analysis.specs.declared.case_index.Beyond.{Beyond}
 use Rattle.tg_analysis.specs.Cases.{is_marked, place_at, IsFirstBeyond, HasLooked}
 

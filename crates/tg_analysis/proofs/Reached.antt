@@ -18,12 +18,12 @@ use Rattle.tg_graph.specs.RuleLists.{CanShare, CanShareAll}
 use Rattle.tg_names.proofs.Sets.{member-nothing}
 use Rattle.tg_islands.specs.Sharing.{SharedExactly, TogetherAsAlone, HeldInIsland}
 use Rattle.tg_islands.specs.Numbering.{AreCounted, AreIslands}
-use Rattle.tg_analysis.specs.Gathered.{target_of, HasEdgeFrom}
-use Rattle.tg_analysis.specs.ByTarget.{HoldsIn}
+use Rattle.tg_index.specs.IslandEdges.{target_of, HasEdgeFrom}
+use Rattle.tg_index.specs.ByTarget.{HoldsIn}
 use Rattle.tg_analysis.specs.Reaching.{TellWho, TellReach, set_at, AreNamedSets, GainsRights, HoldsBefore, HoldUpTo, HasEach, MarkUpTo, GainsLabel, GainLabels, ReachUpTo}
 use Rattle.tg_islands.proofs.Places.{place_of, place-known}
-use Rattle.tg_analysis.proofs.Gathered.{is_there, edge-exact}
-use Rattle.tg_analysis.proofs.ByTarget.{end-leads, target-within, scan-exact}
+use Rattle.tg_index.proofs.IslandEdges.{is_there, edge-exact}
+use Rattle.tg_index.proofs.ByTarget.{end-leads, target-within, scan-exact}
 use Rattle.tg_islands.proofs.RowEnds.{some-pair, end-there}
 
 -- the empty set has no member

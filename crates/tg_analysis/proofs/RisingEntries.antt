@@ -13,8 +13,9 @@ use Rattle.std.proofs.lemmas.Option.{slice_get-get_or, slice_get_within, slice_g
 use Rattle.tg_names.specs.declared.right_sets.Right.{Right}
 use Rattle.tg_names.specs.declared.right_sets.Rights.{Rights}
 use Rattle.tg_names.specs.Sets.{member, nothing}
-use Rattle.tg_analysis.specs.declared.held.Held.{Held}
-use Rattle.tg_analysis.specs.Cases.{IsSaid, AreRising}
+use Rattle.tg_index.specs.declared.by_target.Held.{Held}
+use Rattle.tg_index.specs.HeldInto.{IsSaid}
+use Rattle.tg_analysis.specs.Cases.{AreRising}
 use Rattle.tg_analysis.proofs.Claims.{no_entry}
 use Rattle.tg_analysis.proofs.HeldEntries.{entry_of}
 use Rattle.tg_analysis.proofs.Reached.{nothing-has}

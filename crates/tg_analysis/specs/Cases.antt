@@ -14,11 +14,11 @@ use Rattle.tg_graph.specs.RuleLists.{CanShare}
 use Rattle.tg_analysis.specs.declared.cases.Case.{Case}
 use Rattle.tg_analysis.specs.declared.cases.Claimed.{Claimed}
 use Rattle.tg_analysis.specs.declared.cases.Spot.{Spot}
-use Rattle.tg_analysis.specs.declared.by_target.HeldEdge.{HeldEdge}
-use Rattle.tg_analysis.specs.declared.held.Held.{Held}
+use Rattle.tg_index.specs.declared.by_target.Held.{Held}
 use Rattle.tg_analysis.specs.declared.case_index.Beyond.{Beyond}
 use Rattle.tg_islands.specs.Numbering.{AreIslands, number_of}
-use Rattle.tg_analysis.specs.ByTarget.{Listed, AreListed, Leads}
+use Rattle.tg_index.specs.HeldInto.{IsSaid}
+use Rattle.tg_index.specs.ByTarget.{Listed, AreListed, Leads}
 
 -- the first comes sooner: by right in the order of the letters, which is that of their bits, then by place
 abbrev pub IsSooner : Right → ℕ → Right → ℕ → Type 0
@@ -111,24 +111,6 @@ IsFirstInBoth one other None = (right : Right) → IsInBoth one other right → 
 IsFirstInBoth one other (Some first) = IsInBoth one other first × ((right : Right) → IsInBoth one other right → bit_of right < bit_of first → ⊥)
 
 -- ---- what islands hold over one y
--- some entry says that the island with the number holds the right
-pub record IsSaid (entries : List Held) (right : Right) (number : ℕ) : Type 0 where
-  pub place : ℕ
-  pub entry : Held
-  pub stands : slice_get entries place ≡ Some entry
-  pub of : entry.number ≡ number
-  pub held : IsTrue (member entry.label right)
-
--- the edge leads to the target, has the right, and is out of the island with the number
-pub record IsEntryOf (numbers : List ℕ) (to : ℕ) (edge : HeldEdge) (right : Right) (number : ℕ) : Type 0 where
-  pub target : edge.target ≡ to
-  pub held : IsTrue (member edge.label right)
-  pub of : slice_get numbers edge.source ≡ Some number
-
--- the entries say as well what the edge does
-abbrev pub GainsEntry : List ℕ → ℕ → HeldEdge → List Held → List Held → Type 0
-GainsEntry numbers target edge old new = (right : Right) (number : ℕ) → IsSaid new right number ↔ (IsSaid old right number ⊎ IsEntryOf numbers target edge right number)
-
 -- the entries stand in rising order of their numbers
 abbrev pub AreRising : List Held → Type 0
 AreRising entries = (i j : ℕ) (a b : Held) → i < j → slice_get entries i ≡ Some a → slice_get entries j ≡ Some b → a.number < b.number

@@ -1,6 +1,5 @@
 pub mod Holdings
 pub mod Gathered
 pub mod Tables
-pub mod ByTarget
 pub mod Reaching
 pub mod Cases

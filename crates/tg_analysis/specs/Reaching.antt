@@ -11,7 +11,7 @@ use Rattle.tg_graph.specs.RuleLists.{CanShare, CanShareAll}
 use Rattle.tg_islands.specs.declared.questions.AskFault.{AskFault}
 use Rattle.tg_islands.specs.declared.questions.AskFault.TheVariants.{Unknown}
 use Rattle.tg_islands.specs.Numbering.{AreCounted}
-use Rattle.tg_analysis.specs.Gathered.{target_of, HasEdgeFrom}
+use Rattle.tg_index.specs.IslandEdges.{target_of, HasEdgeFrom}
 
 -- the fault of a question about one name: it is no vertex
 abbrev pub name_fault : ProtectionGraph → Name → Option AskFault

@@ -2,7 +2,7 @@
 use Rattle.std.specs.Prelude.{◌≡◌, ℕ, ◌+◌, ◌*◌, ◌/◌, ◌<◌, ◌≤◌, ◌↔◌, Bool, ◌||◌, IsTrue, if◌then◌else◌, nat_eq, nat_lt, List, length, slice_get, slice_index_or, Option, Some, None, Result, IfOk, ◌⊎◌}
 use Rattle.std.specs.Option.{option_map}
 use Rattle.tg_names.specs.declared.right_sets.Right.{Right}
-use Rattle.tg_graph.specs.Limits.{most_vertices}
+use Rattle.tg_graph.specs.Limits.{most_vertices, most_workers}
 use Rattle.tg_names.specs.Names.{Name}
 use Rattle.tg_graph.specs.Graphs.{ProtectionGraph}
 use Rattle.tg_rows.specs.Rows.{Entries}
@@ -37,10 +37,6 @@ pub record IsPairTable (g : ProtectionGraph) (right : Right) (table : Table) : T
   pub len : table_len table ≡ length g.vertices
   pub inside : (i j : ℕ) (x y : Name) → slice_get g.vertices i ≡ Some x → slice_get g.vertices j ≡ Some y → TellsWhether (CanShare g right x y) (table_cell table i j)
   pub outside : (i j : ℕ) → (length g.vertices ≤ i) ⊎ (length g.vertices ≤ j) → table_cell table i j ≡ None
-
--- how many workers there may be
-abbrev pub most_workers : ℕ
-most_workers = 16
 
 -- the first fault of a question for a table
 abbrev pub table_fault : ProtectionGraph → ℕ → Option TableFault

@@ -1,8 +1,8 @@
 //! Blocks of rows, each gathered by a worker of its own.
 ghost use Rattle.std.specs.Prelude.{◌≡◌, ◌+◌, ◌<◌, ◌≤◌, IfOk, length, vec_len};
-ghost use Rattle.tg_graph.specs.Limits.{most_vertices};
+ghost use Rattle.tg_graph.specs.Limits.{most_vertices, most_workers};
 ghost use Rattle.tg_analysis.specs.Gathered.{Gathers};
-ghost use Rattle.tg_analysis.specs.Tables.{most_workers, block_start, AreBlocks};
+ghost use Rattle.tg_analysis.specs.Tables.{block_start, AreBlocks};
 
 use crate::gates::Gate;
 use crate::gathering::gather;

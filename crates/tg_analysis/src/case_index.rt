@@ -4,21 +4,20 @@ ghost use Rattle.std.specs.Map.{keys_of};
 ghost use Rattle.tg_graph.specs.GraphOf.{graph_of};
 ghost use Rattle.tg_graph.specs.RuleLists.{CanShare};
 ghost use Rattle.tg_analysis.specs.declared.cases.Spot.{Spot};
-ghost use Rattle.tg_analysis.specs.declared.held.Held.{Held};
+ghost use Rattle.tg_index.specs.declared.by_target.Held.{Held};
 ghost use Rattle.tg_islands.specs.Numbering.{AreIslands};
-ghost use Rattle.tg_analysis.specs.ByTarget.{AreChained};
+ghost use Rattle.tg_index.specs.ByTarget.{AreChained};
 ghost use Rattle.tg_analysis.specs.Cases.{AreHeldBy, AreHeldOver, AreMembersFrom, AreNumbersAt, AreNumbersOf, ArePlaces, AreVertices, CannotShare, FindsFirst, HasLooked, StandsAt, StandsUnmarked, is_marked};
 
-use crate::by_target::EdgesByTarget;
 use crate::cases::{Case, Spot, earlier};
-use crate::edge_counts::edge_count;
 use crate::heads::Heads;
-use crate::held::{Held, HeldOver, soonest, soonest_without};
+use crate::held::{HeldOver, soonest, soonest_without};
 use crate::laws;
 use crate::members::{Members, is_marked};
 use std::alloc::{AllocError, Global};
 use std::marker::Model;
 use tg_graph::{Graph, Name, Rights};
+use tg_index::{EdgesByTarget, Held};
 use tg_islands::Islands;
 
 // The name at a place.
@@ -191,7 +190,7 @@ fn held_over_each(
     requires { AreVertices (graph_of graph.now) names.now }
     ensures { IfOk result (λ held. AreHeldOver graph.now islands.now names.now held.items) }
 {
-    let edges = EdgesByTarget::of(alloc, graph, edge_count(graph))?;
+    let edges = EdgesByTarget::of(alloc, graph)?;
     let held = held_by(alloc, graph, &edges, islands, names)?;
     Ok(held)
 }

@@ -3,7 +3,8 @@ ghost use Rattle.std.specs.Prelude.{◌≡◌, ◌≤◌, IfOk, IfSome, OnOk, le
 ghost use Rattle.tg_graph.specs.Limits.{most_vertices};
 ghost use Rattle.tg_rows.specs.Rows.{row_number};
 ghost use Rattle.tg_islands.specs.Numbering.{AreCounted};
-ghost use Rattle.tg_analysis.specs.Gathered.{target_of, TakesEdge, TakesEdges, Gathers};
+ghost use Rattle.tg_index.specs.IslandEdges.{target_of};
+ghost use Rattle.tg_analysis.specs.Gathered.{TakesEdge, TakesEdges, Gathers};
 
 use crate::holdings::Holdings;
 use std::alloc::{AllocError, Global};

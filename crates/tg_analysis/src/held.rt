@@ -1,8 +1,9 @@
-//! What islands hold over one vertex, edge by edge.
+//! What islands hold over one vertex: an entry for each island, and what of it comes soonest.
 ghost use Rattle.std.specs.Prelude.{◌≡◌, ◌↔◌, ◌<◌, ◌+◌, ℕ, Some, IfOk, OnOk, IsTrue, length, slice_get};
 ghost use Rattle.tg_names.specs.declared.right_sets.Right.{Right};
 ghost use Rattle.tg_names.specs.Sets.{member};
-ghost use Rattle.tg_analysis.specs.Cases.{AreHeads, AreRising, IsClaim, IsClaimOf, IsClaimWithout, IsFirstWithout, IsLackOf, IsSaid, IsSoonest, JoinsUpTo, rights_under};
+ghost use Rattle.tg_index.specs.HeldInto.{IsSaid};
+ghost use Rattle.tg_analysis.specs.Cases.{AreHeads, AreRising, IsClaim, IsClaimOf, IsClaimWithout, IsFirstWithout, IsLackOf, IsSoonest, JoinsUpTo, rights_under};
 
 use crate::cases::{Claimed, first_in_both, sooner};
 use crate::heads::Heads;
@@ -12,16 +13,8 @@ use std::alloc::{AllocError, Global};
 use std::collections::BTreeMap;
 use std::marker::Model;
 use tg_graph::{Right, Rights};
+use tg_index::Held;
 use tg_sharing::named;
-
-/// Rights that an island holds by one edge.
-#[derive(Clone, Copy)]
-pub(crate) struct Held {
-    /// The number of the island.
-    pub number: usize,
-    /// The rights.
-    pub label: Rights,
-}
 
 // The first right of the set that an entry says, with the place that stands for its island.
 fn claim_of(entry: Held, places: &[Option<usize>], rights: Rights) -> Option<Claimed>
@@ -90,7 +83,7 @@ pub(crate) struct HeldOver {
 
 impl Model for HeldOver {
     ghost use Rattle.std.specs.Prelude.{List};
-    ghost use Rattle.tg_analysis.specs.declared.held.Held as one;
+    ghost use Rattle.tg_index.specs.declared.by_target.Held as one;
 
     ghost Value = { List one.Held };
 

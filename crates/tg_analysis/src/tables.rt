@@ -1,8 +1,8 @@
 //! The table of all pairs: who can come to hold a right over whom.
 ghost use Rattle.std.specs.Prelude.{◌≡◌, ◌<◌, ◌≤◌, IfOk, IfErr, OnOk, None, length};
 ghost use Rattle.tg_graph.specs.GraphOf.{graph_of};
-ghost use Rattle.tg_graph.specs.Limits.{most_vertices};
-ghost use Rattle.tg_analysis.specs.Tables.{table_len, table_cell, IsPairTable, most_workers, table_fault, IsDueTableFault};
+ghost use Rattle.tg_graph.specs.Limits.{most_vertices, most_workers};
+ghost use Rattle.tg_analysis.specs.Tables.{table_len, table_cell, IsPairTable, table_fault, IsDueTableFault};
 
 use crate::blocks::gather_all;
 use crate::gates::Gate;
@@ -12,11 +12,8 @@ use crate::table_faults::TableFault;
 use std::alloc::{AllocError, Global};
 use std::marker::Model;
 use std::thread::Threads;
-use tg_graph::{Graph, MOST_VERTICES, Right};
+use tg_graph::{Graph, MOST_VERTICES, MOST_WORKERS, Right};
 use tg_islands::Islands;
-
-/// How many workers there may be. There is at least one.
-pub const MOST_WORKERS: u64 = 16;
 
 /// The table of all pairs of vertices, by position: whether the first can come to hold the right
 /// over the second.

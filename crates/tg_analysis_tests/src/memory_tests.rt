@@ -1,7 +1,7 @@
 // Each test passes whichever one request for memory is refused, which `make refusals` tries. Where a
 // call was refused memory, its second try has it.
 ghost use Rattle.tg_names.specs.Sets.{IsNamed};
-ghost use Rattle.tg_analysis.specs.ByTarget.{IsIndexOf};
+ghost use Rattle.tg_index.specs.ByTarget.{IsIndexOf};
 
 use crate::case_tests::{Kind, found};
 use crate::test_answers::{

@@ -12,3 +12,4 @@ pub mod Drafts
 pub mod Ends
 pub mod TakenRows
 pub mod Waiting
+pub mod StepWords

@@ -17,7 +17,7 @@ mod waiting;
 pub use builder::GraphBuilder;
 pub use draft::{Draft, Ready, drafts_apart_commute, drafts_fit_by_names};
 pub use ends::Wanted;
-pub use limits::{MOST_CELLS, MOST_SEATS, MOST_VERTICES};
+pub use limits::{MOST_CELLS, MOST_SEATS, MOST_VERTICES, MOST_WORKERS};
 pub use protection::{EdgeFault, Graph, VertexFault};
 pub use rules::{Refusal, Rule, RuleFault};
 pub use session::{Act, Reply, Step};

@@ -15,7 +15,7 @@ use Rattle.tg_hall.specs.declared.answers.Answered.{Answered}
 use Rattle.tg_hall.specs.declared.records.Record.{Record}
 use Rattle.tg_hall.specs.declared.seats.OpenSession.{OpenSession}
 use Rattle.tg_hall.specs.declared.seats.SeatState.{SeatState}
-use Rattle.tg_hall.specs.StepWords.{IsNamedStep}
+use Rattle.tg_graph.specs.StepWords.{IsNamedStep}
 use Rattle.tg_hall.specs.Answers.{IsAnswer, AreAnswers, after_step, after_steps}
 use Rattle.tg_hall.specs.Histories.{replay}
 use Rattle.tg_hall.specs.Touches.{IsClear, step_writes}

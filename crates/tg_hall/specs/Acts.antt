@@ -7,7 +7,6 @@ use Rattle.tg_hall.specs.declared.events.Event.{Event}
 use Rattle.tg_hall.specs.declared.events.Event.TheVariants.{Begin, Learn, Stage, Put, Abort}
 use Rattle.tg_hall.specs.declared.events.HallReply.{HallReply}
 use Rattle.tg_hall.specs.declared.events.HallReply.TheVariants as reply
-use Rattle.tg_hall.specs.StepWords.{IsNamedStep}
 use Rattle.tg_hall.specs.Worlds.{World, SeatView, seat_of, Happens, Run}
 
 -- whether a reply says that a record was taken in
@@ -68,13 +67,6 @@ Acts w k act.Begin answer v = MatchBool (is_free w k) (CatchesUp w k answer v) (
 Acts w k (act.Stage step) answer v = Happens w (Stage k step) answer v
 Acts w k act.Commit answer v = Repeats w (Put k) answer v
 Acts w k act.Abort answer v = Happens w (Abort k) answer v
-
--- a step that the act stages names only rights
-abbrev pub IsStageableAct : Act → Type 0
-IsStageableAct act.Begin = ⊤
-IsStageableAct (act.Stage step) = IsNamedStep step
-IsStageableAct act.Commit = ⊤
-IsStageableAct act.Abort = ⊤
 
 -- an event that may take in a record
 abbrev pub MayLearn : Event → Type 0

@@ -2,7 +2,7 @@
 use Rattle.std.specs.Prelude.{◌≡◌, [], Bool}
 use Rattle.tg_rows.specs.Rows.{Entries}
 use Rattle.tg_graph.specs.Drafts.{Changes, laid_over}
-use Rattle.tg_analysis.specs.ByTarget.{IsIndexOf, has_found, unasked}
+use Rattle.tg_index.specs.ByTarget.{IsIndexOf, has_found, unasked}
 use Rattle.tg_hall.specs.declared.knowing.Known.{Known}
 use Rattle.tg_hall.specs.declared.knowing.Known.TheVariants.{OfBase, OfWhole}
 

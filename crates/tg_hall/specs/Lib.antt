@@ -1,4 +1,3 @@
-pub mod StepWords
 pub mod Sameness
 pub mod Answers
 pub mod Histories

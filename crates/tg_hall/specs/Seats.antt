@@ -11,7 +11,7 @@ use Rattle.tg_hall.specs.declared.answers.Answered.{Answered}
 use Rattle.tg_hall.specs.declared.events.HallFault.{HallFault}
 use Rattle.tg_hall.specs.declared.events.HallFault.TheVariants.{Changed, Crowded}
 use Rattle.tg_hall.specs.Touches.{IsClear, IsSpoilt, IsOvercrowded}
-use Rattle.tg_hall.specs.StepWords.{IsNamedStep}
+use Rattle.tg_graph.specs.StepWords.{IsNamedStep}
 use Rattle.tg_hall.specs.Answers.{AreAnswers}
 use Rattle.tg_hall.specs.Histories.{replay, count_of}
 use Rattle.tg_hall.specs.Drafted.{IsDraftOf}

@@ -14,7 +14,7 @@ use Rattle.tg_hall.specs.declared.events.HallReply.TheVariants as reply
 use Rattle.tg_hall.specs.declared.events.HallFault.TheVariants.{NoSeat, AlreadyOpen, NotOpen, Changed, Crowded, JournalFull, Memory}
 use Rattle.tg_hall.specs.declared.events.StoreFault.{StoreFault}
 use Rattle.tg_hall.specs.declared.events.StoreFault.TheVariants as fault
-use Rattle.tg_hall.specs.StepWords.{IsNamedStep}
+use Rattle.tg_graph.specs.StepWords.{IsNamedStep}
 use Rattle.tg_hall.specs.Answers.{IsAnswer, AreAnswers, after_steps}
 use Rattle.tg_hall.specs.Histories.{replay, count_of}
 use Rattle.tg_hall.specs.Touches.{IsClear, IsSpoilt, IsOvercrowded}

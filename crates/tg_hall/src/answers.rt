@@ -1,6 +1,6 @@
 //! The steps of a session, each with its reply.
 ghost use Rattle.std.specs.Prelude.{◌≡◌, All, IfOk};
-ghost use Rattle.tg_hall.specs.StepWords.{IsNamedStep};
+ghost use Rattle.tg_graph.specs.StepWords.{IsNamedStep};
 
 use std::alloc::AllocError;
 use std::marker::Model;
@@ -33,7 +33,7 @@ pub struct Steps {
 impl Model for Steps {
     ghost use Rattle.std.specs.Prelude.{List, All};
     ghost use Rattle.tg_hall.specs.declared.answers.Answered.{Answered};
-    ghost use Rattle.tg_hall.specs.StepWords.{IsNamedStep};
+    ghost use Rattle.tg_graph.specs.StepWords.{IsNamedStep};
 
     ghost Value = { List Answered };
 

@@ -2,14 +2,15 @@
 ghost use Rattle.std.specs.Prelude.{◌≡◌, false, IfOk, OnErr, None};
 ghost use Rattle.tg_graph.specs.GraphOf.{graph_of};
 ghost use Rattle.tg_graph.specs.Drafts.{Fits, laid_over};
-ghost use Rattle.tg_analysis.specs.ByTarget.{IsIndexOf, has_found, unasked};
+ghost use Rattle.tg_index.specs.ByTarget.{IsIndexOf, has_found, unasked};
 ghost use Rattle.tg_hall.specs.Answers.{IsAnswer, unknown_of_two};
 ghost use Rattle.tg_hall.specs.Drafted.{drafted};
 ghost use Rattle.tg_hall.specs.Knowing.{IsKnown, knows_any, forgotten};
 
 use std::alloc::{AllocError, Global};
-use tg_analysis::{AskFault, SharingIndex};
 use tg_graph::{Draft, Graph, Name, Reply, Right, Step};
+use tg_index::SharingIndex;
+use tg_islands::AskFault;
 
 /// What a session knows of the graph that its draft stands for, from the questions about sharing that came
 /// before, until a rule is carried out, a record is taken in or the session ends: the islands, once they are

@@ -4,7 +4,7 @@ ghost use Rattle.tg_names.specs.Sets.{IsNamed};
 ghost use Rattle.tg_graph.specs.Rules.{rights_of};
 ghost use Rattle.tg_graph.specs.GraphOf.{graph_of};
 ghost use Rattle.tg_graph.specs.Drafts.{laid_over, Fits, IsDraft};
-ghost use Rattle.tg_hall.specs.StepWords.{IsNamedStep};
+ghost use Rattle.tg_graph.specs.StepWords.{IsNamedStep};
 ghost use Rattle.tg_hall.specs.Histories.{replay};
 ghost use Rattle.tg_hall.specs.Answers.{lack_of_room, session_refusal, IsAnswer, unknown_of_two, after_step, after_steps};
 ghost use Rattle.tg_hall.specs.Touches.{step_writes};

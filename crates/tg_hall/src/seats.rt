@@ -8,13 +8,13 @@ ghost use Rattle.tg_graph.specs.GraphOf.{graph_of};
 ghost use Rattle.tg_graph.specs.Drafts.{ArePositionsOf};
 ghost use Rattle.tg_graph.specs.Limits.{most_cells};
 ghost use Rattle.tg_hall.specs.declared.records.Record.{Record};
-ghost use Rattle.tg_hall.specs.StepWords.{IsNamedStep};
+ghost use Rattle.tg_graph.specs.StepWords.{IsNamedStep};
 ghost use Rattle.tg_hall.specs.Answers.{IsAnswer, AreAnswers, after_steps};
 ghost use Rattle.tg_hall.specs.Histories.{count_of, replay};
 ghost use Rattle.tg_hall.specs.Touches.{IsClear};
 ghost use Rattle.tg_hall.specs.Trails.{HasRoom, SameTrail, IsTrail, LeadsBy, TakesOver, vertices_at};
 ghost use Rattle.tg_hall.specs.Seats.{IsSessionOn, unknowing, given_up, KnowsNothing};
-ghost use Rattle.tg_analysis.specs.ByTarget.{unasked};
+ghost use Rattle.tg_index.specs.ByTarget.{unasked};
 ghost use Rattle.tg_hall.specs.Knowing.{knows_any, forgotten};
 ghost use Rattle.tg_hall.specs.Worlds.{is_short_of_memory, one_further, fresh_seat, Begins, TakesIn, Learns, Stages, Aborts, Joins, Puts};
 

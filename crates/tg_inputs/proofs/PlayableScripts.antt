@@ -3,7 +3,7 @@ use Rattle.tg_graph.specs.declared.session.Act.{Act}
 use Rattle.tg_graph.specs.declared.session.Act.TheVariants.{Begin, Stage, Commit, Abort}
 use Rattle.tg_graph.specs.declared.session.Step.TheVariants.{Do, Holds, Share}
 use Rattle.tg_text.specs.ScriptText.{ScriptOf, IsNamedAct, AreNamedEvents, IsWithinLimits}
-use Rattle.tg_hall.specs.Acts.{IsStageableAct}
+use Rattle.tg_graph.specs.StepWords.{IsStageableAct}
 use Rattle.tg_inputs.specs.Outcomes.{IsPlayableScript}
 
 stageable : (act : Act) → IsNamedAct act → IsStageableAct act

@@ -4,7 +4,7 @@ use Rattle.tg_graph.specs.declared.rules.Refusal.{Refusal}
 use Rattle.tg_graph.specs.declared.session.Reply.TheVariants.{Done, Refused}
 use Rattle.tg_graph.specs.Graphs.{ProtectionGraph, has_vertex}
 use Rattle.tg_graph.specs.GraphOf.{graph_of}
-use Rattle.tg_graph.specs.Limits.{most_vertices, most_cells, most_seats}
+use Rattle.tg_graph.specs.Limits.{most_vertices, most_cells, most_seats, most_workers}
 use Rattle.tg_graph.specs.Rules.{refusal_of, after}
 use Rattle.tg_text.specs.declared.rule_text.RuleLine.{RuleLine}
 use Rattle.tg_text.specs.declared.script_text.ScriptLine.{ScriptLine}
@@ -12,8 +12,7 @@ use Rattle.tg_text.specs.ScriptText.{ScriptOf}
 use Rattle.tg_islands.specs.declared.questions.AskFault.{AskFault}
 use Rattle.tg_cuts.specs.declared.kept.Ends.{Ends}
 use Rattle.tg_cuts.specs.Cuts.{unknown_end_or, cut_fault}
-use Rattle.tg_analysis.specs.Tables.{most_workers}
-use Rattle.tg_hall.specs.Acts.{IsStageableAct}
+use Rattle.tg_graph.specs.StepWords.{IsStageableAct}
 use Rattle.tg_inputs.specs.declared.outcome.Report.{Report}
 use Rattle.tg_inputs.specs.declared.outcome.Halt.{Halt}
 use Rattle.tg_inputs.specs.declared.outcome.Halt.TheVariants as halt

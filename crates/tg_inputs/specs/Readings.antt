@@ -15,7 +15,7 @@ use Rattle.tg_text.specs.RuleText.{rules_text}
 use Rattle.tg_text.specs.ScriptText.{ScriptOf, script_text}
 use Rattle.tg_text.specs.PolicyText.{PolicyLineOf, policy_text}
 use Rattle.tg_words.specs.Spelling.{line_of}
-use Rattle.tg_analysis.specs.Tables.{most_workers}
+use Rattle.tg_graph.specs.Limits.{most_workers}
 use Rattle.tg_cuts.specs.declared.kept.Ends.{Ends}
 
 -- a report

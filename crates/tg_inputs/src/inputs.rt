@@ -11,8 +11,8 @@ ghost use Rattle.tg_inputs.specs.Outcomes.{Brings, report_text, played_in, playe
 use crate::outcome::{Halt, Report};
 use crate::playing::AppliedRules;
 use std::alloc::{AllocError, Global};
-use tg_analysis::{Ends, MOST_WORKERS};
-use tg_graph::{Graph, Name, NameFault, Refusal, Reply, Right, Rights};
+use tg_cuts::Ends;
+use tg_graph::{Graph, MOST_WORKERS, Name, NameFault, Refusal, Reply, Right, Rights};
 use tg_text::{
     PolicyLine, Script, TextFault, TextKind, append_reply, read_graph, read_policy,
     read_rules_into, read_script,

@@ -9,7 +9,7 @@ use Rattle.tg_store.specs.declared.outcomes.StoreMeetFault.{StoreMeetFault}
 use Rattle.tg_store.specs.declared.outcomes.StoreMeetFault.TheVariants as meet
 use Rattle.tg_hall.specs.Histories.{replay}
 use Rattle.tg_store.specs.Running.{RunningSeat, IsSeat, GoesOn, PutsNothing}
-use Rattle.tg_hall.specs.Acts.{IsStageableAct}
+use Rattle.tg_graph.specs.StepWords.{IsStageableAct}
 use Rattle.tg_plays.specs.declared.racing.Finished.{Finished}
 use Rattle.tg_plays.specs.declared.turns.Player.{Player}
 use Rattle.tg_plays.specs.declared.turns.Player.TheVariants.{Free}

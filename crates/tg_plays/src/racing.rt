@@ -3,7 +3,7 @@ ghost use Rattle.std.specs.Prelude.{◌≡◌, ◌==◌, ◌+◌, ◌<◌, ◌�
 ghost use Rattle.tg_graph.specs.GraphOf.{graph_of};
 ghost use Rattle.tg_graph.specs.Limits.{most_vertices};
 ghost use Rattle.tg_text.specs.ScriptText.{script_of};
-ghost use Rattle.tg_hall.specs.Acts.{IsStageableAct};
+ghost use Rattle.tg_graph.specs.StepWords.{IsStageableAct};
 ghost use Rattle.tg_store.specs.Running.{IsOf, IsSeat, GoesOn, PutsNothing, first_seat};
 ghost use Rattle.tg_plays.specs.Runs.{playing_in};
 ghost use Rattle.tg_inputs.specs.Outcomes.{Makes, IsPlayableScript, report_text};

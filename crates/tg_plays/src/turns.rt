@@ -1,7 +1,7 @@
 //! What a seat of a race does at its events, one after another.
 ghost use Rattle.std.specs.Prelude.{◌≡◌};
 ghost use Rattle.tg_store.specs.Running.{IsOf, IsSeat};
-ghost use Rattle.tg_hall.specs.Acts.{IsStageableAct};
+ghost use Rattle.tg_graph.specs.StepWords.{IsStageableAct};
 ghost use Rattle.tg_plays.specs.Races.{seat_at, unopened_reply, fault_reply, OpensSession, Stages, CommitsSession, Turns};
 
 use std::alloc::AllocError;

@@ -1,7 +1,7 @@
 // Each test passes whichever one request for memory is refused, which `make refusals` tries. Where a
 // call was refused memory, its second try has it.
 ghost use Rattle.std.specs.Prelude.{IfSome};
-ghost use Rattle.tg_hall.specs.StepWords.{IsNamedStep};
+ghost use Rattle.tg_graph.specs.StepWords.{IsNamedStep};
 
 use std::alloc::{AllocError, Global};
 use std::process::Abort;

@@ -1,7 +1,7 @@
 //! The sessions of a running store.
 ghost use Rattle.std.specs.Prelude.{◌≡◌, ◌∷◌, ◌++◌, ◌<◌, [], IfOk, OnErr, length};
 ghost use Rattle.tg_graph.specs.GraphOf.{graph_of};
-ghost use Rattle.tg_hall.specs.StepWords.{IsNamedStep};
+ghost use Rattle.tg_graph.specs.StepWords.{IsNamedStep};
 ghost use Rattle.tg_hall.specs.Answers.{IsAnswer, after_steps};
 ghost use Rattle.tg_store.specs.Running.{RunningSession, IsSeat, IsSession, KnowsNoMore};
 ghost use Rattle.tg_store.specs.Outcomes.{BeginSays, CommitSays, CommitFaultSays};

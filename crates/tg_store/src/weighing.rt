@@ -3,7 +3,7 @@ ghost use Rattle.std.specs.Prelude.{◌≡◌, ◌↔◌, ◌<◌, ◌+◌, All,
 ghost use Rattle.tg_graph.specs.Drafts.{Fits};
 ghost use Rattle.tg_graph.specs.GraphOf.{graph_of};
 ghost use Rattle.tg_graph.specs.Limits.{most_vertices};
-ghost use Rattle.tg_hall.specs.StepWords.{IsNamedStep};
+ghost use Rattle.tg_graph.specs.StepWords.{IsNamedStep};
 ghost use Rattle.tg_hall.specs.Answers.{AreAnswers, after_step};
 ghost use Rattle.tg_hall.specs.Drafted.{drafted, GainsRows, IsDraftOf};
 ghost use Rattle.tg_hall.specs.Touches.{touches, step_writes, spoiler};

@@ -1,9 +1,8 @@
 //! A store with two seats for the tests, where both act in turn.
 ghost use Rattle.std.specs.Prelude.{◌≡◌, None, Some, IfOk};
 ghost use Rattle.std.specs.Option.{ForSome};
-ghost use Rattle.tg_hall.specs.Acts.{IsStageableAct};
+ghost use Rattle.tg_graph.specs.StepWords.{IsStageableAct, IsNamedStep};
 ghost use Rattle.tg_store.specs.Running.{IsOf};
-ghost use Rattle.tg_hall.specs.StepWords.{IsNamedStep};
 
 use crate::scripts::{Row, act_of, reply_of};
 use std::alloc::{AllocError, Global};

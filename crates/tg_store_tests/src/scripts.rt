@@ -2,8 +2,7 @@
 ghost use Rattle.std.specs.Prelude.{IfSome};
 ghost use Rattle.tg_graph.specs.Rules.{rights_of};
 ghost use Rattle.tg_names.specs.Sets.{IsNamed};
-ghost use Rattle.tg_hall.specs.Acts.{IsStageableAct};
-ghost use Rattle.tg_hall.specs.StepWords.{IsNamedStep};
+ghost use Rattle.tg_graph.specs.StepWords.{IsStageableAct, IsNamedStep};
 ghost use Rattle.tg_hall.specs.Worlds.{IsStageable};
 
 use std::process::Abort;

@@ -1,5 +1,5 @@
 ghost use Rattle.std.specs.Prelude.{IfOk};
-ghost use Rattle.tg_hall.specs.StepWords.{IsNamedStep};
+ghost use Rattle.tg_graph.specs.StepWords.{IsNamedStep};
 ghost use Rattle.tg_store.specs.Running.{IsOf};
 
 use crate::desks::{Desk, agreeing, met, opened};

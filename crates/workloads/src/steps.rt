@@ -1,6 +1,6 @@
 //! The steps of sessions.
 ghost use Rattle.std.specs.Prelude.{◌≡◌};
-ghost use Rattle.tg_hall.specs.StepWords.{IsNamedStep};
+ghost use Rattle.tg_graph.specs.StepWords.{IsNamedStep};
 
 use crate::chance::Chance;
 use crate::texts::any;

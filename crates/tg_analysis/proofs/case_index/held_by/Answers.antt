@@ -2,9 +2,9 @@ use Rattle.std.proofs.Common.{◌↔◌, ℕ, List, length, refl, sym, subst, �
 use Rattle.std.specs.Map.{keys_of}
 use Rattle.std.proofs.lemmas.Option.{slice_get_read}
 use Rattle.tg_names.specs.declared.right_sets.Right.{Right}
-use Rattle.tg_analysis.specs.declared.held.Held.{Held}
-use Rattle.tg_analysis.specs.ByTarget.{Leads}
-use Rattle.tg_analysis.specs.Cases.{IsSaid}
+use Rattle.tg_index.specs.declared.by_target.Held.{Held}
+use Rattle.tg_index.specs.ByTarget.{Leads}
+use Rattle.tg_index.specs.HeldInto.{IsSaid}
 use Rattle.tg_islands.proofs.RowEnds.{found}
 use Rattle.tg_analysis.proofs.HeldEntries.{over-more, through}
 use Rattle.tg_analysis.proofs.case_index.held_by.Goals as goal

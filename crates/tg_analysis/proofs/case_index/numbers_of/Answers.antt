@@ -1,7 +1,7 @@
 use Rattle.std.proofs.Common.{length, refl, sym, ◌∙◌}
 use Rattle.std.specs.Map.{keys_of}
 use Rattle.std.proofs.lemmas.Option.{slice_get_read}
-use Rattle.tg_analysis.proofs.ByTarget.{numbered-none}
+use Rattle.tg_index.proofs.ByTarget.{numbered-none}
 use Rattle.tg_analysis.proofs.Claims.{numbers-more}
 use Rattle.tg_analysis.proofs.case_index.numbers_of.Goals as goal
 

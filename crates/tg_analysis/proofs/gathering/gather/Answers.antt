@@ -1,6 +1,7 @@
 use Rattle.std.proofs.Common.{length, arith}
 use Rattle.tg_rows.specs.Rows.{row_number}
-use Rattle.tg_analysis.proofs.Gathered.{gathers-row, edge-within}
+use Rattle.tg_index.proofs.IslandEdges.{edge-within}
+use Rattle.tg_analysis.proofs.Gathered.{gathers-row}
 use Rattle.tg_analysis.proofs.gathering.gather.Goals as goal
 
 pub loop-position-preserved : goal.loop-position-preserved

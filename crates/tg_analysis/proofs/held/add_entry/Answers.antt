@@ -4,7 +4,7 @@ use Rattle.tg_names.specs.declared.right_sets.Right.{Right}
 use Rattle.tg_names.specs.declared.right_sets.Rights.{Rights}
 use Rattle.tg_names.specs.Sets.{member, IsNamed}
 use Rattle.tg_names.proofs.Sets.{member-union, named-union}
-use Rattle.tg_analysis.specs.declared.held.Held.{Held}
+use Rattle.tg_index.specs.declared.by_target.Held.{Held}
 use Rattle.tg_analysis.proofs.Claims.{no_entry, joins-more}
 use Rattle.tg_analysis.proofs.held.add_entry.Goals as goal
 

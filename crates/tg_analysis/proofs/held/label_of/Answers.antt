@@ -5,7 +5,7 @@ use Rattle.std.proofs.lemmas.List.Sorted.{answers_always}
 use Rattle.tg_names.specs.declared.right_sets.Right.{Right}
 use Rattle.tg_names.specs.declared.right_sets.Rights.{Rights}
 use Rattle.tg_names.specs.Sets.{member, nothing}
-use Rattle.tg_analysis.specs.Cases.{IsSaid}
+use Rattle.tg_index.specs.HeldInto.{IsSaid}
 use Rattle.tg_analysis.proofs.RisingEntries.{searched-says, searched-in-vain}
 use Rattle.tg_analysis.proofs.held.label_of.Goals as goal
 

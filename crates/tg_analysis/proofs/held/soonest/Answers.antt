@@ -1,6 +1,6 @@
 use Rattle.std.proofs.Common.{◌≡◌, ◌+◌, length, get_or, sym, subst, arith}
 use Rattle.std.proofs.lemmas.Option.{slice_get-get_or}
-use Rattle.tg_analysis.specs.declared.held.Held.{Held}
+use Rattle.tg_index.specs.declared.by_target.Held.{Held}
 use Rattle.tg_analysis.specs.Cases.{IsClaim, IsSoonest}
 use Rattle.tg_analysis.proofs.Claims.{no_entry, claim-more}
 use Rattle.tg_analysis.proofs.held.soonest.Goals as goal

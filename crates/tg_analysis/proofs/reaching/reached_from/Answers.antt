@@ -2,7 +2,7 @@ use Rattle.std.proofs.Common.{◌<◌, ◌^◌, length, arith, sym, ◌∙◌}
 use Rattle.std.specs.Map.{keys_of}
 use Rattle.std.proofs.lemmas.Map.Entries.{length-keys_of}
 use Rattle.tg_graph.proofs.Positions.{at-position}
-use Rattle.tg_analysis.proofs.ByTarget.{numbered, numbered-none}
+use Rattle.tg_index.proofs.ByTarget.{numbered, numbered-none}
 use Rattle.tg_analysis.proofs.Reached.{reach-exact}
 use Rattle.tg_analysis.proofs.reaching.reached_from.Goals as goal
 

@@ -1,5 +1,5 @@
 use Rattle.std.proofs.Common.{◌≡◌, ℕ, ◌<◌, List, Some, true, length, slice_get}
-use Rattle.tg_analysis.specs.declared.held.Held.{Held}
+use Rattle.tg_index.specs.declared.by_target.Held.{Held}
 use Rattle.tg_analysis.specs.Cases.{AreMembersFrom, HasLooked, is_marked}
 use Rattle.tg_analysis.proofs.case_index.Beyond.look_at.Given as goal
 

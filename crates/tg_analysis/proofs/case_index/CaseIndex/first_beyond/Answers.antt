@@ -7,7 +7,7 @@ use Rattle.tg_graph.specs.GraphOf.{graph_of}
 use Rattle.tg_graph.specs.RuleLists.{CanShare}
 use Rattle.tg_graph.proofs.Positions.{at-position}
 use Rattle.tg_analysis.specs.declared.cases.Spot.{Spot}
-use Rattle.tg_analysis.specs.declared.held.Held.{Held}
+use Rattle.tg_index.specs.declared.by_target.Held.{Held}
 use Rattle.tg_analysis.specs.Cases.{IsCase, IsClaim, IsIndexed, IsSoonest, AreMembersFrom, CaseIndexed, StandsAt, StandsUnmarked, is_marked}
 use Rattle.tg_islands.proofs.RowEnds.{found}
 use Rattle.tg_analysis.proofs.CaseOrder.{IsFirstSpot, first-more}

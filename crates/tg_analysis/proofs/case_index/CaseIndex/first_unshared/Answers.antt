@@ -6,7 +6,7 @@ use Rattle.tg_names.specs.Names.{Name}
 use Rattle.tg_graph.specs.GraphOf.{graph_of}
 use Rattle.tg_graph.proofs.Positions.{at-position}
 use Rattle.tg_analysis.specs.declared.cases.Spot.{Spot}
-use Rattle.tg_analysis.specs.declared.held.Held.{Held}
+use Rattle.tg_index.specs.declared.by_target.Held.{Held}
 use Rattle.tg_analysis.specs.Cases.{IsCase, IsIndexed, IsLackOf, IsSoonest, CannotShare, CaseIndexed, AreNumbersAt, StandsAt}
 use Rattle.tg_islands.proofs.RowEnds.{found}
 use Rattle.tg_analysis.proofs.CaseOrder.{IsFirstSpot, first-more}

@@ -1,0 +1,3 @@
+pub mod IslandEdges
+pub mod ByTarget
+pub mod HeldInto
