@@ -7,8 +7,8 @@ use tg_analysis::{
     AskFault, Gate, Islands, OpenGate, PairTable, TableFault, can_share, can_share_all, derivation,
     derivation_all, islands, pair_table, reach, who,
 };
-use tg_graph::laws::accepted_rules_are_run;
 use tg_graph::{Graph, Name, Right, Rights, Rule};
+use tg_graph_laws::accepted_rules_are_run;
 
 /// The islands.
 pub(crate) fn islands_of(alloc: Global, graph: &Graph) -> Result<Islands, AllocError> {

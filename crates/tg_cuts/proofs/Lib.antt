@@ -6,7 +6,6 @@ pub mod Bounds
 pub mod Sides
 pub mod Nearest
 pub mod Needed
-pub mod OneCut
 pub mod LossRules
 pub mod CutFound
 pub mod KeptEnds

@@ -1,39 +1,29 @@
 -- What rules lead to that take rights away.
-use Rattle.std.proofs.Common.{◌≡◌, ◌⊎◌, inl, inr, ℕ, zero, suc, Bool, true, false, ◌&&◌, ◌||◌, not, List, [], ◌∷◌, length, slice_get, Option, Some, None, refl, sym, ap, ◌∙◌, subst, IsTrue, lit<}
+use Rattle.std.proofs.Common.{◌≡◌, ◌⊎◌, inl, inr, ℕ, zero, suc, Bool, true, false, ◌&&◌, ◌||◌, not, List, [], ◌∷◌, length, slice_get, Some, refl, sym, ap, ◌∙◌, subst, IsTrue, lit<}
 use Rattle.std.specs.List.{AllByRecursion, list_any}
-use Rattle.std.proofs.lemmas.Bool.{false≢true, true≢false, eq-eqb, not_from_true, both_ways, or_cases, or_left, or_right, or_from, and_parts, and_from, false_from_ne_true, cases_Bool}
+use Rattle.std.proofs.lemmas.Bool.{false≢true, eq-eqb, both_ways, or_cases, or_left, or_right, or_from, and_parts, and_from, false_from_ne_true, cases_Bool}
 use Rattle.std.proofs.lemmas.Option.{none-some, same_Some}
 use Rattle.tg_names.specs.declared.right_sets.Right.{Right}
 use Rattle.tg_names.specs.declared.right_sets.Right.TheVariants.{T, G, R, W, E, A, D}
 use Rattle.tg_names.specs.declared.right_sets.Rights.{Rights}
 use Rattle.tg_graph.specs.declared.rules.Rule.{Rule}
 use Rattle.tg_graph.specs.declared.rules.Rule.TheVariants.{Take, Grant, Create, Remove}
-use Rattle.tg_graph.specs.declared.rules.Refusal.{Refusal}
-use Rattle.tg_graph.specs.declared.rules.Refusal.TheVariants.{Unknown}
 use Rattle.tg_names.specs.Sets.{member, is_empty_set, IsNamed, nothing}
 use Rattle.tg_names.specs.Names.{Name, same_name}
 use Rattle.tg_graph.specs.Graphs.{ProtectionGraph, has_vertex, WellFormed}
-use Rattle.tg_graph.specs.Rules.{refused_if, unknown, refusal_of, without_rights, after}
-use Rattle.tg_graph.specs.RuleLists.{AllAccepted, after_all}
+use Rattle.tg_graph.specs.Rules.{without_rights, after}
+use Rattle.tg_graph.specs.RuleLists.{after_all}
 use Rattle.tg_names.proofs.Sets.{same_set, member-nothing}
 use Rattle.tg_rows.proofs.Rows.{same_bytes}
 use Rattle.tg_cuts.specs.declared.kept.Ends.{Ends}
-use Rattle.tg_cuts.specs.Cuts.{is_one_of, Loses, Keeps, TakesHeld, edges_of, CutsAreAccepted}
+use Rattle.tg_cuts.specs.Cuts.{is_one_of, Loses, Keeps, TakesHeld, edges_of}
 use Rattle.tg_cuts.specs.CutParts.{are_taken}
 use Rattle.tg_islands.proofs.NameTests.{same_refl}
 
--- ---- a test that a rule passes
+-- ---- one rule
 no_member : (s : Rights) → IsNamed s → ((right : Right) → member s right ≡ false) → is_empty_set s ≡ true
 no_member s named none = eq-eqb s.0 0 (ap (λ (r : Rights). r.0) (same_set s nothing (λ right. none right ∙ sym (member-nothing right)) named (lit< tt)))
 
-pass : (b : Bool) (r : Refusal) (later : Option Refusal) → b ≡ false → later ≡ None → refused_if b r later ≡ None
-pass true r later h l = absurd (true≢false h)
-pass false r later h l = l
-
-know : (g : ProtectionGraph) (v : Name) (later : Option Refusal) → has_vertex g v ≡ true → later ≡ None → unknown g v later ≡ None
-know g v later there l = pass (not (has_vertex g v)) (Unknown v) later (not_from_true _ there) l
-
--- ---- one rule
 abbrev pub IsRemove : Rule → Type 0
 IsRemove (Take x y z s) = ⊥
 IsRemove (Grant x y z s) = ⊥
@@ -181,26 +171,6 @@ module _ (g : ProtectionGraph) (kept : List Ends) where
 
   pub cut-keeps : (cut : List Rule) → AllByRecursion (TakesHeld g kept) cut → Keeps g (after_all g cut) kept
   cut-keeps cut held u right v k = (cut-loses cut held).others u right v (kept-beside cut held u v k)
-
-  accepted-now : (now : ProtectionGraph) (cut : List Rule) → WellFormed g → now.vertices ≡ g.vertices → AllByRecursion (TakesHeld g kept) cut → AllAccepted now cut
-  unfolding refusal_of after
-  accepted-now now [] well same held = tt
-  accepted-now now (Take x y z s ∷ cut) well same held = absurd (is-remove (Take x y z s) held.0.source held.0.target held.0.rights held.0.is)
-  accepted-now now (Grant x y z s ∷ cut) well same held = absurd (is-remove (Grant x y z s) held.0.source held.0.target held.0.rights held.0.is)
-  accepted-now now (Create x n s ∷ cut) well same held = absurd (is-remove (Create x n s) held.0.source held.0.target held.0.rights held.0.is)
-  accepted-now now (Remove u v s ∷ cut) well same held =
-      let r = remove-held g kept u v s held.0 in
-      let m = some_member s r.named r.some in
-      let ends = well.ends u m.0 v (r.held m.0 m.1) in
-      let hu : has_vertex now u ≡ true = ap (λ (vs : List Name). list_any (same_name u) vs) same ∙ ends.0 in
-      let hv : has_vertex now v ≡ true = ap (λ (vs : List Name). list_any (same_name v) vs) same ∙ ends.1 in (
-        (well.names u ends.0, well.names v ends.1, r.named),
-        know now u _ hu (know now v _ hv (pass _ _ _ r.some refl)),
-        accepted-now (without_rights now u v s) cut well same held.1,
-      )
-
-pub cuts-accepted : CutsAreAccepted
-cuts-accepted g kept cut well held = accepted-now g kept g cut well refl held
 
 -- ---- a graph that has lost rights
 module _ (g h : ProtectionGraph) (edges : List Ends) (loses : Loses g h edges) where

@@ -1,5 +1,5 @@
 -- The least cut: which rights have to go so that x can't come to have the right over y, and from no fewer edges.
-use Rattle.std.specs.Prelude.{◌≡◌, ◌⊎◌, ◌↔◌, ◌<◌, ◌≤◌, ◌^◌, ⊤, ℕ, Bool, true, false, ◌&&◌, not, IsTrue, if◌then◌else◌, nat_lt, List, [], ◌∷◌, length, slice_get, Option, Some, None}
+use Rattle.std.specs.Prelude.{◌≡◌, ◌⊎◌, ◌<◌, ◌≤◌, ⊤, ℕ, Bool, true, false, ◌&&◌, not, IsTrue, if◌then◌else◌, nat_lt, List, [], ◌∷◌, length, slice_get, Option, Some, None}
 use Rattle.std.specs.List.{list_any, AllByRecursion}
 use Rattle.std.specs.Ordering.{nat_cmp}
 use Rattle.std.specs.Cmp.Lexicographic.{slice_cmp}
@@ -11,9 +11,9 @@ use Rattle.tg_graph.specs.declared.rules.Rule.TheVariants.{Take, Grant, Create, 
 use Rattle.tg_names.specs.Sets.{member, is_empty_set, IsNamed}
 use Rattle.tg_graph.specs.Limits.{most_vertices}
 use Rattle.tg_names.specs.Names.{Name, same_name}
-use Rattle.tg_graph.specs.Graphs.{ProtectionGraph, has_vertex, WellFormed}
+use Rattle.tg_graph.specs.Graphs.{ProtectionGraph, has_vertex}
 use Rattle.tg_graph.specs.Rules.{with_rights}
-use Rattle.tg_graph.specs.RuleLists.{AllAccepted, after_all, CanShare}
+use Rattle.tg_graph.specs.RuleLists.{after_all, CanShare}
 use Rattle.tg_islands.specs.declared.questions.AskFault.{AskFault}
 use Rattle.tg_islands.specs.declared.questions.AskFault.TheVariants.{Unknown, TooLarge}
 use Rattle.tg_cuts.specs.declared.kept.Ends.{Ends}
@@ -107,30 +107,3 @@ unknown_end_or g (e ∷ edges) later =
 abbrev pub cut_fault : ProtectionGraph → Name → Name → List Ends → Option AskFault
 cut_fault g x y kept =
     if not (has_vertex g x) then Some (Unknown x) else (if not (has_vertex g y) then Some (Unknown y) else unknown_end_or g kept (if nat_lt most_vertices (length g.vertices) then Some TooLarge else None))
-
--- ---- laws
--- there is one such cut
-abbrev pub ThereIsOneCut : Type 0
-ThereIsOneCut =
-    (g : ProtectionGraph) (right : Right) (x y : Name) (kept : List Ends) (one other : List Rule)
-    → WellFormed g → length g.vertices < 2 ^ 64 → IsTrue (has_vertex g x) → IsTrue (has_vertex g y)
-    → IsTheCut g right x y kept one → IsTheCut g right x y kept other → one ≡ other
-
--- a cut has no rule exactly where x can't come to have the right
-abbrev pub NoRuleWhereNo : Type 0
-NoRuleWhereNo =
-    (g : ProtectionGraph) (right : Right) (x y : Name) (kept : List Ends) (cut : List Rule) → IsTheCut g right x y kept cut → (cut ≡ []) ↔ (CanShare g right x y → ⊥)
-
--- where there is one, the kept edges leave a cut: not both answers are right
-abbrev pub NotBoth : Type 0
-NotBoth = (g : ProtectionGraph) (right : Right) (x y : Name) (kept : List Ends) (cut : List Rule) → IsTheCut g right x y kept cut → HasNoCut g right x y kept → ⊥
-
--- the rules of a cut are accepted in turn
-abbrev pub CutsAreAccepted : Type 0
-CutsAreAccepted = (g : ProtectionGraph) (kept : List Ends) (cut : List Rule) → WellFormed g → AllByRecursion (TakesHeld g kept) cut → AllAccepted g cut
-
--- where no edge is kept, a cut has no more rules than there are vertices: to take the right from each that holds it over y is enough
-abbrev pub CutsAreShort : Type 0
-CutsAreShort =
-    (g : ProtectionGraph) (right : Right) (x y : Name) (cut : List Rule)
-    → WellFormed g → length g.vertices < 2 ^ 64 → IsTrue (has_vertex g x) → IsTrue (has_vertex g y) → IsLeastCut g right x y [] cut → length cut ≤ length g.vertices

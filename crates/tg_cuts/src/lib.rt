@@ -4,7 +4,6 @@
 
 mod cut;
 mod kept;
-pub mod laws;
 mod losses;
 mod network;
 

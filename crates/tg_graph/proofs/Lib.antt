@@ -1,9 +1,6 @@
 pub mod Graphs
 pub mod Runs
 pub mod Same
-pub mod RefusalOrder
-pub mod RunLaws
-pub mod RowsOf
 pub mod NewNames
 pub mod Drafts
 pub mod DraftLaws
@@ -11,3 +8,4 @@ pub mod TakenOver
 pub mod Positions
 pub mod BuiltGraphs
 pub mod WaitingLabels
+pub mod EmptyLabels

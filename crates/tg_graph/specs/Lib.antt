@@ -4,9 +4,6 @@ pub mod RuleWords
 pub mod RuleLists
 pub mod GraphOf
 pub mod Additions
-pub mod RowsOf
-pub mod RefusalOrder
-pub mod Laws
 pub mod Limits
 pub mod Drafts
 pub mod Ends

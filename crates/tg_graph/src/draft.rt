@@ -8,7 +8,7 @@ ghost use Rattle.tg_rows.specs.Rows.{Entries, is_known, IsGraph, Adds, TakesAway
 ghost use Rattle.tg_graph.specs.Graphs.{has_vertex};
 ghost use Rattle.tg_graph.specs.GraphOf.{graph_of};
 ghost use Rattle.tg_graph.specs.Rules.{verdict, Applies, rights_of, with_rights, without_rights, with_vertex, refusal_of, after};
-ghost use Rattle.tg_graph.specs.Drafts.{laid_over, Fits, IsDraft, PutsRow, ArePositionsOf, NotesPosition, written_by, FittingIsByNames, ApartFit, ApartCommute};
+ghost use Rattle.tg_graph.specs.Drafts.{laid_over, Fits, IsDraft, PutsRow, ArePositionsOf, NotesPosition, written_by};
 
 use crate::checks::{self, Near, Rows};
 use crate::protection::Graph;
@@ -422,16 +422,3 @@ impl Graph {
         }
     }
 }
-
-/// A draft fits a graph exactly where no created name is a vertex there, and each source and each
-/// target of its rows is a vertex there or created.
-pub fn drafts_fit_by_names()
-    ensures { FittingIsByNames }
-{}
-
-/// Of drafts over one graph that have no row in common each fits what the other makes of the graph,
-/// and what both make of it is the same whichever is laid first.
-pub fn drafts_apart_commute()
-    ensures fit { ApartFit }
-    ensures same { ApartCommute }
-{}

@@ -6,7 +6,6 @@ mod checks;
 mod draft;
 mod ends;
 mod labels;
-pub mod laws;
 mod limits;
 mod protection;
 mod row_maps;
@@ -15,7 +14,7 @@ mod session;
 mod waiting;
 
 pub use builder::GraphBuilder;
-pub use draft::{Draft, Ready, drafts_apart_commute, drafts_fit_by_names};
+pub use draft::{Draft, Ready};
 pub use ends::Wanted;
 pub use limits::{MOST_CELLS, MOST_SEATS, MOST_VERTICES, MOST_WORKERS};
 pub use protection::{EdgeFault, Graph, VertexFault};

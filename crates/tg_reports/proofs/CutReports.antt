@@ -10,7 +10,7 @@ use Rattle.tg_text.proofs.SmallGraphs.{graph_is_small}
 use Rattle.tg_text.proofs.Steps.{bind_ok}
 use Rattle.tg_cuts.specs.declared.kept.Ends.{Ends}
 use Rattle.tg_cuts.specs.Cuts.{Loses, Keeps, IsTheCut, HasNoCut}
-use Rattle.tg_cuts.proofs.OneCut.{one-cut, not-both}
+use Rattle.tg_cut_laws.proofs.OneCut.{one-cut, not-both}
 use Rattle.tg_inputs.specs.Readings.{ReportText, CutQuestion, graph_in, right_in, name_in, vertex_in, kept_in, cut_in, IsFor}
 use Rattle.tg_reports.specs.Reports.{cut_report, IsCut}
 use Rattle.tg_reports.specs.ReportParts.{cut_text}

@@ -14,10 +14,10 @@ use Rattle.tg_words.specs.Spelling.{spaced}
 use Rattle.tg_text.specs.RuleText.{rules_text}
 use Rattle.tg_text.specs.RoundTrips.{lines_of_rules, on_lines}
 use Rattle.tg_text.proofs.PlainWords.{IsPlainWord, word_from_test, name_word}
-use Rattle.tg_text.proofs.RuleBack.{length-more}
-use Rattle.tg_text.proofs.RulesBack.{rules-read, skipped-line}
-use Rattle.tg_cuts.proofs.Removed.{cuts-accepted}
-use Rattle.tg_cuts.proofs.OneCut.{cuts-short}
+use Rattle.tg_text.proofs.PlainRules.{length-more}
+use Rattle.tg_text_laws.proofs.RulesBack.{rules-read, skipped-line}
+use Rattle.tg_cut_laws.proofs.AcceptedCuts.{cuts-accepted}
+use Rattle.tg_cut_laws.proofs.OneCut.{cuts-short}
 use Rattle.tg_reports.specs.Reports.{cut_report}
 use Rattle.tg_reports.specs.ReportLaws.{CutsMakeItNo, CutTextsMakeItNo, CutsFit}
 use Rattle.tg_reports.proofs.DerivedTexts.{are_rules, same_rules, all_played}

@@ -18,8 +18,8 @@ use Rattle.tg_words.specs.Spelling.{spaced}
 use Rattle.tg_text.specs.RuleText.{rules_text}
 use Rattle.tg_text.specs.RoundTrips.{lines_of_rules, on_lines}
 use Rattle.tg_text.proofs.PlainWords.{IsPlainWord, word_from_test, name_word}
-use Rattle.tg_text.proofs.RuleBack.{length-more}
-use Rattle.tg_text.proofs.RulesBack.{rules-read, skipped-line}
+use Rattle.tg_text.proofs.PlainRules.{length-more}
+use Rattle.tg_text_laws.proofs.RulesBack.{rules-read, skipped-line}
 use Rattle.tg_text.proofs.SmallGraphs.{graph_is_small}
 use Rattle.tg_text.proofs.Steps.{bind_ok}
 use Rattle.tg_islands.specs.Moves.{only}

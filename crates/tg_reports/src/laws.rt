@@ -2,7 +2,7 @@
 ghost use Rattle.tg_reports.specs.ReportLaws.{CanonicalTextsStay, CutTextsMakeItNo, CutsFit, CutsMakeItNo, DerivationsBelowGiveTheRight, DerivationsGiveTheRights, IslandsAreLines, KeptPoliciesHold, ReachIsARow, ReadDerivationsBelowGiveTheRight, ReadDerivationsGiveTheRights, RulesStopAtRefusal, ThereIsOneReport, WhoIsAColumn};
 ghost use Rattle.tg_policies.specs.Policies.{KeptExactly, VerdictsAreOne};
 
-use tg_text::laws::equal_graphs_have_one_text;
+use tg_text_laws::equal_graphs_have_one_text;
 
 /// A report of rules shows those up to the first that is refused, and the graph that they lead to.
 pub fn rules_stop_at_refusal()

@@ -12,12 +12,40 @@ use Rattle.tg_text.specs.declared.rule_text.RuleLine.{RuleLine}
 use Rattle.tg_words.specs.Limits.{most_line_bytes, most_rules}
 use Rattle.tg_words.specs.Lines.{lines_of, is_skipped}
 use Rattle.tg_words.specs.Reading.{◌>>=◌, MakesFirst}
-use Rattle.tg_text.specs.RuleText.{rule_line, counted_item}
+use Rattle.tg_text.specs.RuleText.{rule_line, counted_item, two_names, three_names, rule_of_words}
 use Rattle.tg_words.specs.Spelling.{spaced, line_of, words_with}
-use Rattle.tg_words.specs.Words.{Word, value_or}
+use Rattle.tg_words.specs.Words.{Word, value_or, name_at, rights_at}
 use Rattle.tg_text.proofs.PlainWords.{IsPlainWord, word_from_test, name_word, lines-spaced, line-is}
 use Rattle.tg_text.proofs.PlainEdges.{set_word}
-use Rattle.tg_text.proofs.RuleBack.{words_with-read, length-more}
+use Rattle.tg_names.specs.declared.right_sets.Rights.{Rights}
+use Rattle.tg_names.specs.Names.{Name, IsName}
+use Rattle.tg_text.proofs.Steps.{name_from}
+
+two_names-is : (x y : Name) (letters : Word) (s : Rights) → IsName x → IsName y → rights_at letters ≡ Ok s → two_names (x ∷ y ∷ letters ∷ []) ≡ Ok (x, y, s)
+unfolding two_names
+two_names-is x y letters s p q e =
+    ap (λ r. r >>= λ x. name_at y >>= λ y. rights_at letters >>= λ s. Ok (x, y, s)) (name_from x p)
+    ∙ ap (λ r. r >>= λ y. rights_at letters >>= λ s. Ok (x, y, s)) (name_from y q)
+    ∙ ap (λ r. r >>= λ s. Ok (x, y, s)) e
+
+three_names-is : (x y z : Name) (letters : Word) (s : Rights) → IsName x → IsName y → IsName z → rights_at letters ≡ Ok s → three_names (x ∷ y ∷ z ∷ letters ∷ []) ≡ Ok (x, y, z, s)
+unfolding three_names
+three_names-is x y z letters s p q r e =
+    ap (λ r. r >>= λ x. name_at y >>= λ y. name_at z >>= λ z. rights_at letters >>= λ s. Ok (x, y, z, s)) (name_from x p)
+    ∙ ap (λ r. r >>= λ y. name_at z >>= λ z. rights_at letters >>= λ s. Ok (x, y, z, s)) (name_from y q)
+    ∙ ap (λ r. r >>= λ z. rights_at letters >>= λ s. Ok (x, y, z, s)) (name_from z r)
+    ∙ ap (λ r. r >>= λ s. Ok (x, y, z, s)) e
+
+-- the words of a rule, its letters in any order
+pub words_with-read : (rule : Rule) (letters : Word) → IsRule rule → rights_at letters ≡ Ok (rights_of rule) → rule_of_words (words_with rule letters) ≡ Ok rule
+unfolding rule_of_words
+words_with-read (Take x y z s) letters (p, q, r, n) e = ap (λ w. w >>= λ a. Ok (Take a.0 a.1 a.2 a.3)) (three_names-is x y z letters s p q r e)
+words_with-read (Grant x y z s) letters (p, q, r, n) e = ap (λ w. w >>= λ a. Ok (Grant a.0 a.1 a.2 a.3)) (three_names-is x y z letters s p q r e)
+words_with-read (Create x m s) letters (p, q, n) e = ap (λ w. w >>= λ a. Ok (Create a.0 a.1 a.2)) (two_names-is x m letters s p q e)
+words_with-read (Remove x y s) letters (p, q, n) e = ap (λ w. w >>= λ a. Ok (Remove a.0 a.1 a.2)) (two_names-is x y letters s p q e)
+
+pub length-more : (word : Word) (next : Word) (words : List Word) → length (spaced (word ∷ next ∷ words)) ≡ length word + 1 + length (spaced (next ∷ words))
+length-more word next words = omega (arith, length-append word (32 ∷ spaced (next ∷ words)))
 
 plain-words : (rule : Rule) (letters : Word) → IsRule rule → IsPlainWord letters → AllByRecursion IsPlainWord (words_with rule letters)
 plain-words (Take x y z s) letters (p, q, r, n) l = (word_from_test (codes "take") refl refl, (name_word x p, (name_word y q, (name_word z r, (l, tt)))))

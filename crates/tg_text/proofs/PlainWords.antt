@@ -1,24 +1,16 @@
 -- Words written with single spaces, and lines that end in a line feed, are read as they were written.
-use Rattle.std.proofs.Common.{◌≡◌, ℕ, ◌+◌, ◌<◌, ◌≤◌, Bool, true, false, ◌&&◌, not, ◌==◌, nat_lt, List, [], ◌∷◌, ◌++◌, length, None, Some, Result, Ok, Err, refl, sym, ap, ◌∙◌, arith, if◌then◌else◌}
-use Rattle.std.specs.List.{AllByRecursion, list_all}
+use Rattle.std.proofs.Common.{◌≡◌, ℕ, ◌+◌, ◌<◌, ◌≤◌, Bool, true, false, ◌&&◌, not, ◌==◌, nat_lt, List, [], ◌∷◌, ◌++◌, length, None, Some, Result, Ok, Err, refl, sym, ap, ◌∙◌, arith, if◌then◌else◌, eqb}
+use Rattle.std.specs.List.{AllByRecursion, list_all, onto_first}
 use Rattle.std.proofs.lemmas.List.{append_assoc, append-nil}
 use Rattle.std.proofs.lemmas.Bool.{and_parts, not-true}
 use Rattle.std.proofs.lemmas.Bool.Decides.{nat_tests}
-use Rattle.tg_names.specs.declared.right_sets.Right.{Right}
-use Rattle.tg_names.specs.declared.right_sets.Right.TheVariants.{T, G, R, W, E, A, D}
-use Rattle.tg_names.specs.declared.right_sets.Rights.{Rights}
 use Rattle.tg_names.specs.Names.{Name, IsName, first_bad, fits_at}
-use Rattle.tg_names.specs.Sets.{member}
-use Rattle.tg_names.specs.Letters.{letters_among, letters_of, letter_of, all_rights}
 use Rattle.tg_words.specs.declared.faults.TextKind.{TextKind}
 use Rattle.tg_words.specs.declared.faults.TextKind.TheVariants.{LineTooLong}
 use Rattle.tg_words.specs.Lines.{lines_of, words_of, is_blank, begins_with_word, is_skipped}
 use Rattle.tg_words.specs.Reading.{after_line}
 use Rattle.tg_words.specs.Words.{Word}
-use Rattle.tg_words.specs.Spelling.{spaced, or_dash, rights_text, line_of}
-use Rattle.tg_text.proofs.Letters.{length-letters}
-use Rattle.tg_text.proofs.LineCuts.{NoFeed, line_first}
-use Rattle.tg_text.proofs.WordCuts.{word_first}
+use Rattle.tg_words.specs.Spelling.{spaced, line_of}
 use Rattle.tg_words.specs.Limits.{most_line_bytes}
 
 -- ---- words without blanks and line feeds
@@ -47,6 +39,12 @@ pub word_from_test : (word : Word) → list_all is_plain word ≡ true → nat_l
 word_from_test word e l = record { some = grind (arith, nat_tests); plain = plain_from_test word e }
 
 -- ---- the words of a line
+-- a run that goes no further is one word
+pub word_first : (word rest : List ℕ) → 0 < length word → AllByRecursion (λ b. is_blank b ≡ false) word → begins_with_word rest ≡ false → words_of (word ++ rest) ≡ word ∷ words_of rest
+word_first [] rest l h e = absurd (omega arith)
+word_first (b ∷ []) rest l h e = rw (h.0, e) refl
+word_first (b ∷ c ∷ cs) rest l h e = rw (h.0, ap not h.1.0) (ap (onto_first b) (word_first (c ∷ cs) rest (omega arith) h.1 e))
+
 plain_no_blanks : (word : List ℕ) → Plain word → AllByRecursion (λ b. is_blank b ≡ false) word
 plain_no_blanks [] p = tt
 plain_no_blanks (b ∷ bs) p = (plain_not_blank b p.0, plain_no_blanks bs p.1)
@@ -61,6 +59,13 @@ words-spaced (word ∷ next ∷ words) a =
     word-read word (32 ∷ spaced (next ∷ words)) a.0.some a.0.plain refl ∙ ap (λ ws. word ∷ ws) (words-spaced (next ∷ words) a.1)
 
 -- ---- the lines of a text
+abbrev pub NoFeed : List ℕ → Type 0
+NoFeed = AllByRecursion (λ b. eqb b 10 ≡ false)
+
+pub line_first : (line rest : List ℕ) → NoFeed line → lines_of (line ++ (10 ∷ rest)) ≡ line ∷ lines_of rest
+line_first [] rest h = refl
+line_first (b ∷ bs) rest h = rw h.0 (ap (onto_first b) (line_first bs rest h.1))
+
 no_feed-append : (xs ys : List ℕ) → Plain xs → NoFeed ys → NoFeed (xs ++ ys)
 no_feed-append [] ys p n = n
 no_feed-append (x ∷ xs) ys p n = (plain_not_feed x p.0, no_feed-append xs ys p.1 n)
@@ -77,7 +82,7 @@ no_feed-spaced (word ∷ next ∷ words) a = no_feed-append word (32 ∷ spaced 
 pub lines-spaced : (words : List Word) (rest : List ℕ) → AllByRecursion IsPlainWord words → lines_of (line_of words ++ rest) ≡ spaced words ∷ lines_of rest
 lines-spaced words rest a = ap lines_of (append_assoc (spaced words) (10 ∷ []) rest) ∙ line_first (spaced words) rest (no_feed-spaced words a)
 
--- ---- names and letters are plain words
+-- ---- names are plain words
 fits-plain : (k b : ℕ) → fits_at k b ≡ true → is_plain b ≡ true
 fits-plain k b e = grind (arith, nat_tests)
 
@@ -95,37 +100,6 @@ name_word v n = record { some = n.some; plain = name-plain 0 v n.fit }
 -- a name that goes no further is the first word
 pub name_first : (v : Name) (rest : List ℕ) → IsName v → begins_with_word rest ≡ false → words_of (v ++ rest) ≡ v ∷ words_of rest
 name_first v rest n e = word-read v rest n.some (name-plain 0 v n.fit) e
-
-letter-plain : (right : Right) → is_plain (letter_of right) ≡ true
-letter-plain T = refl
-letter-plain G = refl
-letter-plain R = refl
-letter-plain W = refl
-letter-plain E = refl
-letter-plain A = refl
-letter-plain D = refl
-
-letters-plain : (s : Rights) (rights : List Right) → Plain (letters_among s rights)
-letters-plain s [] = tt
-letters-plain s (right ∷ rights) =
-    elim (member s right) as (λ b. Plain (if b then letter_of right ∷ letters_among s rights else letters_among s rights)) [
-      | true ↦ (letter-plain right, letters-plain s rights)
-      | false ↦ letters-plain s rights
-    ]
-
-dash_word : (bs : List ℕ) → Plain bs → IsPlainWord (or_dash bs)
-dash_word [] p = record { some = omega arith; plain = (refl, tt) }
-dash_word (b ∷ bs) p = record { some = omega arith; plain = p }
-
-pub rights_word : (s : Rights) → IsPlainWord (rights_text s)
-rights_word s = dash_word (letters_of s) (letters-plain s all_rights)
-
-length-dash : (bs : List ℕ) → length bs ≤ 7 → length (or_dash bs) ≤ 7
-length-dash [] h = omega arith
-length-dash (b ∷ bs) h = h
-
-pub length-rights : (s : Rights) → length (rights_text s) ≤ 7
-length-rights s = length-dash (letters_of s) (length-letters s all_rights)
 
 -- a line that is not too long and not skipped, by its words
 pub line-is : {A : Type 0} (item : A → List Word → Result A TextKind) (a : A) (words : List Word) → AllByRecursion IsPlainWord words → length (spaced words) ≤ most_line_bytes → is_skipped words ≡ false

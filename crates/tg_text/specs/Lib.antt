@@ -3,17 +3,12 @@ pub mod RuleText
 pub mod ScriptText
 pub mod PolicyText
 pub mod PolicyState
-pub mod TextExamples
 pub mod Grammar
 pub mod GraphGrammar
 pub mod RuleGrammar
 pub mod ScriptGrammar
 pub mod PolicyGrammar
-pub mod Forms
-pub mod FaultKinds
-pub mod PolicyKinds
 pub mod WordLaws
 pub mod Canonical
-pub mod CanonicalLaws
 pub mod RoundTrips
 pub mod PolicyTrips

@@ -5,7 +5,6 @@
 
 mod canonical;
 mod graph_text;
-pub mod laws;
 mod policy_text;
 mod rule_text;
 mod script_text;

@@ -4,7 +4,7 @@ use Rattle.tg_graph.specs.Graphs.{SameGraph}
 use Rattle.tg_text.specs.Canonical.{canonical_text}
 use Rattle.tg_words.specs.Reading.{◌>>=◌}
 use Rattle.tg_text.specs.RoundTrips.{in_order}
-use Rattle.tg_text.proofs.GraphBack.{graph-back}
+use Rattle.tg_text_laws.proofs.GraphBack.{graph-back}
 use Rattle.tg_text.proofs.NameOrder.{among-in_order}
 use Rattle.tg_inputs.specs.Readings.{from_text}
 use Rattle.tg_reports.proofs.laws.canonical_texts_stay.Goals as goal

@@ -7,7 +7,7 @@ use Rattle.tg_graph.specs.GraphOf.{graph_of}
 use Rattle.tg_graph.specs.Rules.{with_rights}
 use Rattle.tg_names.specs.Sets.{is_empty_set}
 use Rattle.tg_graph.specs.Additions.{label_between}
-use Rattle.tg_graph.proofs.RowsOf.{empty-between}
+use Rattle.tg_graph.proofs.EmptyLabels.{empty-between}
 use Rattle.tg_rows.proofs.Rows.{on_err_from}
 use Rattle.tg_graph.proofs.Graphs.{joins-found, same-found, graph-joined, is_graph-joined}
 use Rattle.tg_graph.proofs.TakenOver.{row-at, set_value-at}

@@ -1,0 +1,2 @@
+pub mod AcceptedCuts
+pub mod OneCut

@@ -1,5 +1,0 @@
-use Rattle.tg_graph.proofs.RowsOf.{rows_of_graph}
-use Rattle.tg_graph.proofs.laws.rows_are_of_the_graph.Goals as goal
-
-pub returns : goal.returns
-returns c = rows_of_graph

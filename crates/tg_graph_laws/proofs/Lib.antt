@@ -1,0 +1,4 @@
+pub mod RefusalOrder
+pub mod RunLaws
+pub mod RowsOf
+pub mod FittingDrafts

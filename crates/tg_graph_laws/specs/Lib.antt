@@ -1,0 +1,3 @@
+pub mod RowsOf
+pub mod RefusalOrder
+pub mod Laws

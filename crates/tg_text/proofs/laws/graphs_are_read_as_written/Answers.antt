@@ -1,5 +1,0 @@
-use Rattle.tg_text.proofs.GraphBack.{graph-back}
-use Rattle.tg_text.proofs.laws.graphs_are_read_as_written.Goals as goal
-
-pub returns : goal.returns
-returns c = graph-back

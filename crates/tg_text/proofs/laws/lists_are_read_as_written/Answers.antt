@@ -1,5 +1,0 @@
-use Rattle.tg_text.proofs.RulesBack.{lists-back}
-use Rattle.tg_text.proofs.laws.lists_are_read_as_written.Goals as goal
-
-pub returns : goal.returns
-returns c = lists-back

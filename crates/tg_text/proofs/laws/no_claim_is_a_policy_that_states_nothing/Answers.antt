@@ -1,5 +1,0 @@
-use Rattle.tg_text.proofs.PolicyKindLaws.{no_claim_is_states_nothing}
-use Rattle.tg_text.proofs.laws.no_claim_is_a_policy_that_states_nothing.Goals as goal
-
-pub returns : goal.returns
-returns c = no_claim_is_states_nothing

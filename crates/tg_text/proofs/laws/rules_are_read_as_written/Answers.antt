@@ -1,5 +1,0 @@
-use Rattle.tg_text.proofs.RuleBack.{rule-back}
-use Rattle.tg_text.proofs.laws.rules_are_read_as_written.Goals as goal
-
-pub returns : goal.returns
-returns c = rule-back
