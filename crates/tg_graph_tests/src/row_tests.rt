@@ -5,7 +5,7 @@ use std::cmp::Ordering;
 use std::process::Abort;
 use std::test::Fail;
 use tg_graph::{Graph, Name};
-use tg_rows::{EdgesToAll, ListedEdges, SharedNames};
+use tg_rows::{Hint, Row, SharedNames};
 
 // Six names of 16 bytes, of which four share 15.
 const LONG: [&[u8]; 6] = [
@@ -200,17 +200,41 @@ fn shared_long(rt: &impl Abort, alloc: Global) -> Result<SharedNames, AllocError
     SharedNames::new(alloc, &names)
 }
 
-// Whether a list of edges to these of the names of LONG has one to each, in name order.
-fn is_to_all(rt: &impl Abort, alloc: Global, positions: &[usize]) -> Result<bool, AllocError> {
-    let shared = shared_long(rt, alloc)?;
-    let mut list = ListedEdges::new(alloc, Some(shared.clone()?));
+// Edges to these of the names of LONG, which other rows share.
+fn row_to(
+    rt: &impl Abort,
+    alloc: Global,
+    shared: &SharedNames,
+    positions: &[usize],
+) -> Result<Row, AllocError> {
+    let mut row = Row::new(alloc);
     for position in positions {
         let target = name(rt, LONG[*position % 6]);
-        let number = shared.find(target).unwrap_or(LONG.len());
-        let pushed = list.push(target, set(rt, b"r"), number)?;
-        assert!(rt; pushed);
+        let hint = Hint {
+            names: Some(shared),
+            number: shared.find(target),
+        };
+        row.add(target, set(rt, b"r"), hint)?;
     }
-    Ok(EdgesToAll::of(&list).is_some())
+    Ok(row)
+}
+
+fn has_same_edges(rt: &impl Abort, one: &Row, other: &Row) {
+    assert!(rt; one.len() == other.len());
+    for place in 0..one.len() {
+        assert!(rt; one.at(place) == other.at(place));
+    }
+}
+
+// Whether a row of edges to these of the names of LONG takes the shorter form, which is never laid open,
+// where it is moved.
+fn is_shortened(rt: &impl Abort, alloc: Global, positions: &[usize]) -> Result<bool, AllocError> {
+    let shared = shared_long(rt, alloc)?;
+    let row = row_to(rt, alloc, &shared, positions)?;
+    let moved = row.moved_to(alloc, Some(&shared))?;
+    assert!(rt; row.open().is_some());
+    has_same_edges(rt, &row, &moved);
+    Ok(moved.open().is_none())
 }
 
 #[test]
@@ -227,12 +251,13 @@ fn shared_names_are_numbered_in_order(rt: HostRuntime) -> Result<(), Fail> {
     Ok(())
 }
 
+// A row with an edge to each of the shared names has two forms, with the same edges in both.
 #[test]
-fn lists_with_an_edge_to_each_name(rt: HostRuntime) -> Result<(), Fail> {
-    assert!(rt; is_to_all(&rt, rt.alloc(), &IN_ORDER)?);
-    assert!(rt; !is_to_all(&rt, rt.alloc(), &[5, 1, 0, 3, 2])?);
-    assert!(rt; !is_to_all(&rt, rt.alloc(), &[5, 1, 0, 3, 2, 4, 4])?);
-    assert!(rt; !is_to_all(&rt, rt.alloc(), &[0, 1, 2, 3, 4, 5])?);
+fn a_row_with_an_edge_to_each_name_is_shortened(rt: HostRuntime) -> Result<(), Fail> {
+    assert!(rt; is_shortened(&rt, rt.alloc(), &IN_ORDER)?);
+    assert!(rt; is_shortened(&rt, rt.alloc(), &[0, 1, 2, 3, 4, 5])?);
+    assert!(rt; !is_shortened(&rt, rt.alloc(), &[5, 1, 0, 3, 2])?);
+    assert!(rt; !is_shortened(&rt, rt.alloc(), &[1, 0, 3, 2, 4])?);
     Ok(())
 }
 

@@ -10,8 +10,6 @@ mod shared_names;
 mod shared_row;
 mod targets;
 
-pub use edges_to_all::EdgesToAll;
-pub use listed_edges::ListedEdges;
 pub use open_row::OpenRow;
 pub use row::Row;
 pub use shared_names::{Hint, SharedNames};

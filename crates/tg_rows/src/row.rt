@@ -209,15 +209,6 @@ impl Row {
         }
     }
 
-    /// Where the edge to y is, or where it would go.
-    pub fn place(&self, y: Name) -> Result<usize, usize>
-        ensures found { IfOk result (IsPlaceOf self.now y) }
-        ensures absent { IfErr result (IsGapFor self.now y) }
-        ensures row { IsRow self.now }
-    {
-        self.place_near(y, None)
-    }
-
     // Whether each target in front of the place is below y.
     fn is_above(&self, place: usize, y: Name) -> bool
         requires { place ≤ length self.now }
@@ -251,8 +242,8 @@ impl Row {
         self.is_above(place, y) && self.is_below(place, y)
     }
 
-    /// The same as `place`, found at once where edges are put in one behind the other. The name may have
-    /// this number among those that rows share.
+    /// Where the edge to y is, or where it would go, found at once where edges are put in one behind the
+    /// other. The name may have this number among those that rows share.
     pub fn place_of_next(&self, y: Name, likely: Option<usize>) -> Result<usize, usize>
         ensures found { IfOk result (IsPlaceOf self.now y) }
         ensures absent { IfErr result (IsGapFor self.now y) }
