@@ -5,18 +5,31 @@
 //! `tg_sharing`, and the index for many questions is that of `tg_index`.
 #![tactic(auto)]
 
+// blocks of rows, each gathered by a worker
 mod blocks;
+// an index of a graph for the first right, x and y of which a claim about sharing holds
 mod case_index;
+// such a case, and which of two comes first
 mod cases;
+// what a thread passes before it does its part
 mod gates;
+// gathering what islands hold, from the edges
 mod gathering;
+// the first place of each island in a list
 mod heads;
+// what islands hold over one vertex
 mod held;
+// what islands hold, as it is gathered
 mod holdings;
+// those of islands and of sharing are handed on
 pub mod laws;
+// the members of each island by their places
 mod members;
+// who can come to have rights over one vertex, and which rights one vertex can come to have over each
 mod reaching;
+// why there is no table
 mod table_faults;
+// the table of all pairs
 mod tables;
 
 pub use case_index::CaseIndex;

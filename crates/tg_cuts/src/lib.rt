@@ -2,9 +2,13 @@
 //! another.
 #![tactic(auto)]
 
+// the least cut
 mod cut;
+// edges that stay as they are, by their ends
 mod kept;
+// what each edge has to lose, as rules in order
 mod losses;
+// the edges of a graph that count for a right over y
 mod network;
 
 pub use cut::least_cut;

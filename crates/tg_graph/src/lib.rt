@@ -1,16 +1,27 @@
 //! Protection graphs: names, rights, the graph and its four rules.
 #![tactic(auto)]
 
+// a graph that is built edge by edge, as from a text
 mod builder;
+// whether a rule is accepted, for whatever has rows
 mod checks;
+// changed rows and new vertices, laid over a graph
 mod draft;
+// the ends of edges by position
 mod ends;
+// the labels of waiting edges, by the position of the target
 mod labels;
+// the limits that texts, sessions and derivations keep
 mod limits;
+// the graph: vertices with rows, in order of insertion
 mod protection;
+// changes of several rows at a time
 mod row_maps;
+// the four rules, and the reasons to refuse one
 mod rules;
+// what a session does in one step, and what it is told
 mod session;
+// edges that wait for their rows
 mod waiting;
 
 pub use builder::GraphBuilder;

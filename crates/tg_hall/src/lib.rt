@@ -5,14 +5,23 @@
 //! running threads as well.
 #![tactic(auto)]
 
+// the steps of a session, each with its reply
 mod answers;
+// what happens at a hall, and what it answers
 mod events;
+// the monitor of sessions in one thread
 mod halls;
+// what a session knows of the graph that it asks
 mod knowing;
+// committed sessions, which a journal can hold
 mod records;
+// steps on a draft over a graph
 mod replays;
+// its seats, and the open session, which running threads have too
 mod seats;
+// the names that a session touches, and the records that stand in its way
 mod spoilers;
+// where the records of a hall's history wrote
 mod trails;
 
 pub use answers::{Answered, Steps};

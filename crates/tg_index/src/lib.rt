@@ -4,8 +4,11 @@
 //! ([`EdgesByTarget`]) serve other indexes as well, which ask what islands hold over one vertex.
 #![tactic(auto)]
 
+// the edges by their targets
 mod by_target;
+// how many edges there are
 mod edge_counts;
+// an index of a graph, for many questions about sharing
 mod sharing_index;
 
 pub use by_target::{EdgesByTarget, Held};

@@ -2,10 +2,15 @@
 //! of either is a report too.
 #![tactic(auto)]
 
+// the graph, rules, script, policy and question of the texts and words, or the report of the first fault
 mod inputs;
+// a report, or why the work on one ends early
 mod outcome;
+// standard input, cut in a graph and rules
 mod parts;
+// rules carried out in turn, as they are read
 mod playing;
+// commands and calls, and what words ask for
 mod words;
 
 pub use inputs::{

@@ -8,12 +8,19 @@
 //! a [`Front`].
 #![tactic(auto)]
 
+// what the calls answer
 mod answers;
+// what a record has to be
 mod entry;
+// the row of cells, and the calls on it
 mod journal;
+// the limits of a journal
 mod limits;
+// a note that becomes what another is
 mod notes;
+// what one thread knows of the row, and what it had seen at one moment
 mod pass;
+// the one function behind notes, which is proved by hand
 mod raw_note;
 
 pub use answers::{JournalFault, MeetFault, Next, Put};

@@ -8,10 +8,15 @@
 //! `abort` look at none. This is how the code is written; no contract says it.
 #![tactic(auto)]
 
+// what the calls answer
 mod outcomes;
+// the seats of running threads
 mod running_seats;
+// their sessions
 mod running_sessions;
+// an opening graph, a journal and seats
 mod stores;
+// a record that a running session comes upon, of which it is not known whether it is true
 mod weighing;
 
 pub use outcomes::{BeginFault, Begun, CommitFault, Committed, Receipt, StoreMeetFault};

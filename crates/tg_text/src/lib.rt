@@ -3,10 +3,15 @@
 //! What they are made of, lines and words and their faults, is that of `tg_words`.
 #![tactic(auto)]
 
+// graphs as canonical text
 mod canonical;
+// the text of a graph: what the words of one line add
 mod graph_text;
+// the text of a policy over a graph, both ways
 mod policy_text;
+// the text of rules
 mod rule_text;
+// the text of a script
 mod script_text;
 
 pub use canonical::{names_in_order, write_graph, write_graph_behind};

@@ -2,13 +2,21 @@
 //! numbers, how these are spelled, the versions and limits, and reading line by line up to the first fault.
 #![tactic(auto)]
 
+// what can be wrong with a text
 mod faults;
+// the limits of texts
 mod limits;
+// lines of a text
 mod lines;
+// lines whose words stand between single spaces, read from the front in one pass
 mod plain_lines;
+// reading a text line by line, up to the first fault
 mod reading;
+// rules, replies and numbers as text
 mod spelling;
+// the versions of the text of a graph
 mod versions;
+// the words of a line
 mod words;
 
 pub use faults::{LineFault, TextFault, TextKind};
