@@ -1,14 +1,15 @@
 // Each shape of answer that an event or an act has, with memory for all.
 use crate::scripts::Deed::{
-    Abort, Begin, Commit, Create, Grant, Holds, Learn, PutOnce, Remove, Share, Take,
+    Abort, Begin, Commit, Create, Holds, Learn, PutOnce, Remove, Share, Take,
 };
 use crate::scripts::Word::{
-    AlreadyOpen, Changed, Did, Done, Empty, JournalFull, Learned, No, NoGrant, NoSeat, NoTake,
-    NotHeld, NotOpen, Nothing, Put, Taken, Unknown, Yes,
+    AlreadyOpen, Changed, Did, Done, JournalFull, Learned, No, NoSeat, NotOpen, Nothing, Put,
+    Unknown, Yes,
 };
-use crate::test_helpers::{acts, events, hall_of_three};
+use crate::test_helpers::{acts, events, graph, hall_of_three, rests};
 use std::test::Fail;
 use tg_graph::Right;
+use tg_store::Hall;
 
 #[test]
 fn begins_and_aborts(rt: HostRuntime) -> Result<(), Fail> {
@@ -23,6 +24,13 @@ fn begins_and_aborts(rt: HostRuntime) -> Result<(), Fail> {
         (1, Abort, NotOpen),
     ];
     events(&rt, &mut hall, &rows);
+    let rows = [
+        (3, Begin, NoSeat),
+        (3, Holds(Right::T, *b"ab"), NoSeat),
+        (3, Commit, NoSeat),
+        (3, Abort, NoSeat),
+    ];
+    acts(&rt, &mut hall, &rows);
     Ok(())
 }
 
@@ -65,66 +73,43 @@ fn sessions_put(rt: HostRuntime) -> Result<(), Fail> {
     Ok(())
 }
 
-#[test]
-fn steps_answered(rt: HostRuntime) -> Result<(), Fail> {
-    let mut hall = hall_of_three(&rt, rt.alloc(), 2, 1)?;
-    let rows = [
-        (1, Begin, Done),
-        (1, Remove(*b"az", b"r"), Unknown(b'z')),
-        (1, Create(*b"ab", b"r"), Taken(b'b')),
-        (1, Take(*b"abc", b"-"), Empty),
-        (1, Take(*b"bac", b"r"), NoTake),
-        (1, Grant(*b"abc", b"r"), NoGrant),
-        (1, Take(*b"abc", b"rw"), NotHeld(b"w")),
-        (1, Commit, Put(0)),
-        (1, Begin, Done),
-        (1, Holds(Right::T, *b"ab"), Yes),
-        (1, Holds(Right::R, *b"ac"), No),
-        (1, Holds(Right::R, *b"az"), Unknown(b'z')),
-        (1, Share(Right::R, *b"ac"), Yes),
-        (1, Share(Right::W, *b"ac"), No),
-        (1, Share(Right::R, *b"zc"), Unknown(b'z')),
-        (1, Abort, Done),
-        // a question asks the session's graph
-        (1, Begin, Done),
-        (1, Remove(*b"bc", b"r"), Did),
-        (1, Share(Right::R, *b"ac"), No),
-    ];
-    acts(&rt, &mut hall, &rows);
-    Ok(())
-}
-
-#[test]
-fn acts_of_no_seat_or_session(rt: HostRuntime) -> Result<(), Fail> {
-    let mut hall = hall_of_three(&rt, rt.alloc(), 2, 1)?;
-    let rows = [
-        (2, Begin, NoSeat),
-        (2, Holds(Right::T, *b"ab"), NoSeat),
-        (2, Commit, NoSeat),
-        (2, Abort, NoSeat),
-        (1, Holds(Right::T, *b"ab"), NotOpen),
-        (1, Commit, NotOpen),
-        (1, Abort, NotOpen),
-        (1, Begin, Done),
-        (1, Begin, AlreadyOpen),
-        (1, Abort, Done),
-    ];
-    acts(&rt, &mut hall, &rows);
-    Ok(())
-}
-
+// The third seat's session is changed by the second record, and the seat rests on the first alone. When it begins
+// again, it takes in both.
 #[test]
 fn what_a_seat_has_taken(rt: HostRuntime) -> Result<(), Fail> {
-    let mut hall = hall_of_three(&rt, rt.alloc(), 2, 2)?;
-    acts(&rt, &mut hall, &[(1, Begin, Done), (1, Commit, Put(0))]);
+    let g = graph(&rt, rt.alloc(), b"abcd", &[*b"abt", *b"bcr"])?;
+    let mut hall = Hall::new(rt.alloc(), &g, 8, 3)?;
+    let rows = [
+        (1, Begin, Done),
+        (2, Begin, Done),
+        (3, Begin, Done),
+        (1, Take(*b"abc", b"r"), Did),
+        (2, Create(*b"dn", b"g"), Did),
+        (3, Remove(*b"dn", b"g"), Unknown(b'n')),
+        (1, Commit, Put(0)),
+    ];
+    acts(&rt, &mut hall, &rows);
     assert!(rt; hall.taken(1) == Some(1));
     assert!(rt; hall.taken(2) == Some(0));
-    acts(&rt, &mut hall, &[(2, Begin, Done)]);
-    assert!(rt; hall.taken(2) == Some(1));
+    acts(
+        &rt,
+        &mut hall,
+        &[(2, Commit, Put(1)), (3, Commit, Changed(1, b'd'))],
+    );
+    // n is no vertex there
+    rests(&rt, &hall, 3, 1, 4, &[(*b"ac", b"r")]);
+    acts(&rt, &mut hall, &[(3, Begin, Done)]);
+    assert!(rt; hall.taken(3) == Some(2));
+    Ok(())
+}
+
+#[test]
+fn what_no_seat_has_taken(rt: HostRuntime) -> Result<(), Fail> {
+    let hall = hall_of_three(&rt, rt.alloc(), 2, 2)?;
     assert!(rt; hall.taken(0).is_none());
     assert!(rt; hall.taken(3).is_none());
-    assert!(rt; hall.graph(2).is_some());
     assert!(rt; hall.graph(0).is_none());
+    assert!(rt; hall.graph(2).is_some());
     assert!(rt; hall.graph(3).is_none());
     Ok(())
 }

@@ -21,7 +21,6 @@ pub enum Deed {
     /// An event and no act: to put the session, or to take in the next record.
     PutOnce,
     Take([u8; 3], &'static [u8]),
-    Grant([u8; 3], &'static [u8]),
     Create([u8; 2], &'static [u8]),
     Remove([u8; 2], &'static [u8]),
     Holds(Right, [u8; 2]),
@@ -41,11 +40,6 @@ pub enum Word {
     Yes,
     No,
     Unknown(u8),
-    Taken(u8),
-    Empty,
-    NoTake,
-    NoGrant,
-    NotHeld(&'static [u8]),
     Full,
     NoSeat,
     AlreadyOpen,
@@ -83,15 +77,6 @@ fn rule_of(rt: &impl Abort, deed: Deed) -> Option<Rule>
         Deed::Take(names, letters) => {
             let [x, y, z] = names;
             Rule::Take {
-                x: name(rt, x),
-                y: name(rt, y),
-                z: name(rt, z),
-                rights: set(rt, letters),
-            }
-        }
-        Deed::Grant(names, letters) => {
-            let [x, y, z] = names;
-            Rule::Grant {
                 x: name(rt, x),
                 y: name(rt, y),
                 z: name(rt, z),
@@ -175,11 +160,6 @@ pub fn act_of(rt: &impl Abort, deed: Deed) -> Act
 fn refusal_of(rt: &impl Abort, word: Word) -> Option<Refusal> {
     match word {
         Word::Unknown(letter) => Some(Refusal::Unknown(name(rt, letter))),
-        Word::Taken(letter) => Some(Refusal::Taken(name(rt, letter))),
-        Word::Empty => Some(Refusal::Empty),
-        Word::NoTake => Some(Refusal::NoTake),
-        Word::NoGrant => Some(Refusal::NoGrant),
-        Word::NotHeld(rights) => Some(Refusal::NotHeld(set(rt, rights))),
         Word::Full => Some(Refusal::Full),
         _ => None,
     }

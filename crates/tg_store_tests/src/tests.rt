@@ -1,38 +1,16 @@
-// What seats do to one another: the same rows at a hall and at a store.
+// What seats do to one another at a store, and the faults and limits of a hall and a store.
 use crate::desks::{Desk, opened};
-use crate::scripts::Deed::{
-    Abort, Begin, Commit, Create, Holds, Learn, PutOnce, Remove, Share, Take,
-};
+use crate::scripts::Deed::{Abort, Begin, Commit, Create, Holds, Learn, PutOnce, Share, Take};
 use crate::scripts::Word::{
-    Changed, Crowded, Did, Done, Full, JournalFull, Learned, No, NoSeat, NotOpen, Nothing, Put,
-    Unknown, Yes,
+    Changed, Crowded, Did, Done, Full, Learned, No, NoSeat, Nothing, Put, Unknown, Yes,
 };
 use crate::scripts::{Row, event_of, name, reply_of};
-use crate::test_helpers::{
-    Label, acts, ends, events, graph, hall_of_three, rests, shows, vertices,
-};
+use crate::test_helpers::{Label, acts, ends, events, graph, hall_of_three, shows, vertices};
 use std::alloc::Global;
 use std::process;
 use std::test::Fail;
 use tg_graph::{Graph, MOST_VERTICES, Right};
 use tg_store::{Hall, Store, StoreFault};
-
-// The rows are played at a hall of two seats and eight cells over the graph. The replay of all
-// records has so many vertices, and these labels.
-fn in_hall(
-    rt: &impl process::Abort,
-    alloc: Global,
-    graph: &Graph,
-    rows: &[Row],
-    len: usize,
-    labels: &[Label],
-) {
-    let Ok(mut hall) = Hall::new(alloc, graph, 8, 2) else {
-        panic!(rt; "no hall");
-    };
-    acts(rt, &mut hall, rows);
-    ends(rt, &hall, len, labels);
-}
 
 // The rows are played at a store of two seats over the graph.
 fn in_store(
@@ -82,7 +60,6 @@ fn a_row_that_was_read(rt: HostRuntime) -> Result<(), Fail> {
         (2, Abort, Done),
     ];
     let labels: [Label; 2] = [(*b"ac", b"rw"), (*b"bc", b"r")];
-    in_hall(&rt, rt.alloc(), &g, &rows, 3, &labels);
     let desk = in_store(&rt, rt.alloc(), &g, 8, &rows);
     stands(&rt, &desk, 1, 1, 3, &labels);
     stands(&rt, &desk, 2, 1, 3, &labels);
@@ -101,7 +78,6 @@ fn a_name_that_was_no_vertex(rt: HostRuntime) -> Result<(), Fail> {
         (1, Commit, Changed(0, b'n')),
     ];
     let labels: [Label; 2] = [(*b"ab", b"t"), (*b"cn", b"r")];
-    in_hall(&rt, rt.alloc(), &g, &rows, 4, &labels);
     let desk = in_store(&rt, rt.alloc(), &g, 8, &rows);
     stands(&rt, &desk, 1, 0, 3, &[(*b"ab", b"t")]);
     stands(&rt, &desk, 2, 1, 4, &labels);
@@ -120,7 +96,6 @@ fn two_sessions_apart(rt: HostRuntime) -> Result<(), Fail> {
         (1, Commit, Put(1)),
     ];
     let labels: [Label; 2] = [(*b"ac", b"r"), (*b"dn", b"g")];
-    in_hall(&rt, rt.alloc(), &g, &rows, 5, &labels);
     let desk = in_store(&rt, rt.alloc(), &g, 8, &rows);
     stands(&rt, &desk, 1, 2, 5, &labels);
     stands(&rt, &desk, 2, 1, 5, &[(*b"dn", b"g"), (*b"ac", b"-")]);
@@ -141,55 +116,9 @@ fn questions_after_a_commit(rt: HostRuntime) -> Result<(), Fail> {
         (2, Commit, Put(1)),
     ];
     let labels: [Label; 1] = [(*b"ac", b"r")];
-    in_hall(&rt, rt.alloc(), &g, &rows, 3, &labels);
     let desk = in_store(&rt, rt.alloc(), &g, 8, &rows);
     stands(&rt, &desk, 1, 1, 3, &labels);
     stands(&rt, &desk, 2, 2, 3, &labels);
-    Ok(())
-}
-
-#[test]
-fn sharing_rests_on_all_names(rt: HostRuntime) -> Result<(), Fail> {
-    let g = graph(&rt, rt.alloc(), b"abc", &[*b"abt", *b"bcr"])?;
-    let changed = [
-        (1, Begin, Done),
-        (2, Begin, Done),
-        (1, Share(Right::W, *b"ac"), No),
-        (2, Create(*b"bn", b"-"), Did),
-        (2, Commit, Put(0)),
-        (1, Commit, Changed(0, b'b')),
-    ];
-    in_hall(&rt, rt.alloc(), &g, &changed, 4, &[]);
-    let empty = [
-        (1, Begin, Done),
-        (2, Begin, Done),
-        (1, Share(Right::R, *b"ac"), Yes),
-        (1, Share(Right::W, *b"ac"), No),
-        (2, Commit, Put(0)),
-        (1, Commit, Put(1)),
-    ];
-    in_hall(&rt, rt.alloc(), &g, &empty, 3, &[]);
-    Ok(())
-}
-
-#[test]
-fn one_cell(rt: HostRuntime) -> Result<(), Fail> {
-    let g = Graph::new(rt.alloc());
-    let rows = [
-        (1, Begin, Done),
-        (1, Commit, Put(0)),
-        (1, Commit, NotOpen),
-        (1, Begin, Done),
-        (1, Commit, JournalFull),
-        (1, Begin, Done),
-        (1, Abort, Done),
-    ];
-    let mut hall = Hall::new(rt.alloc(), &g, 1, 1)?;
-    acts(&rt, &mut hall, &rows);
-    assert!(rt; hall.len() == 1);
-    let desk = in_store(&rt, rt.alloc(), &g, 1, &rows);
-    stands(&rt, &desk, 1, 1, 0, &[]);
-    stands(&rt, &desk, 2, 0, 0, &[]);
     Ok(())
 }
 
@@ -287,27 +216,6 @@ fn limits(rt: HostRuntime) {
     for (cells, seats, fault) in rows {
         refused(&rt, rt.alloc(), &g, cells, seats, fault);
     }
-}
-
-#[test]
-fn three_seats(rt: HostRuntime) -> Result<(), Fail> {
-    let g = graph(&rt, rt.alloc(), b"abcd", &[*b"abt", *b"bcr"])?;
-    let mut hall = Hall::new(rt.alloc(), &g, 8, 3)?;
-    let rows = [
-        (1, Begin, Done),
-        (2, Begin, Done),
-        (3, Begin, Done),
-        (1, Take(*b"abc", b"r"), Did),
-        (2, Create(*b"dn", b"g"), Did),
-        (3, Remove(*b"dn", b"g"), Unknown(b'n')),
-        (1, Commit, Put(0)),
-        (2, Commit, Put(1)),
-        (3, Commit, Changed(1, b'd')),
-    ];
-    acts(&rt, &mut hall, &rows);
-    // it rests on the first record alone: n is no vertex there
-    rests(&rt, &hall, 3, 1, 4, &[(*b"ac", b"r")]);
-    Ok(())
 }
 
 #[test]
