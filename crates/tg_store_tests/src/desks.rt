@@ -4,11 +4,11 @@ ghost use Rattle.std.specs.Option.{ForSome};
 ghost use Rattle.tg_graph.specs.StepWords.{IsStageableAct, IsNamedStep};
 ghost use Rattle.tg_store.specs.Running.{IsOf};
 
-use crate::scripts::{Row, act_of, reply_of};
 use std::alloc::{AllocError, Global};
 use std::mem;
 use std::process::Abort;
 use tg_graph::{Act, Graph, Step};
+use tg_hall_trials::{Row, act_of, reply_of};
 use tg_store::{
     Begun, CommitFault, Committed, HallFault, HallReply, Seat, Session, Store, StoreFault,
 };
@@ -244,8 +244,9 @@ impl Desk {
     pub fn play(&mut self, rt: &impl Abort, rows: &[Row]) {
         for at in 0..rows.len() {
             let (seat, deed, word) = rows[at];
-            let reply = self.act(rt, seat, &act_of(rt, deed));
-            assert!(rt; reply == reply_of(rt, word), "row {at}");
+            let act = act_of(deed).expect(rt, "an act");
+            let reply = self.act(rt, seat, &act);
+            assert!(rt; reply_of(word) == Some(reply), "row {at}");
         }
     }
 

@@ -1,23 +1,13 @@
 // Each test passes whichever one request for memory is refused, which `make refusals` tries. Where a
 // call was refused memory, its second try has it.
-use crate::scripts::Deed::{Begin, Commit, Create, Learn, PutOnce, Share};
-use crate::scripts::Word::{Did, Done, Learned, No, Put, Yes};
-use crate::scripts::{Row, act_of, event_of, name, reply_of};
-use crate::test_helpers::has;
 use std::alloc::{AllocError, Global};
 use std::process::Abort;
-use std::test::Fail;
-use tg_graph::{Graph, Right};
-use tg_store::{Hall, HallFault, HallReply, StoreFault};
-
-// The vertex a.
-fn one(rt: &impl Abort, alloc: Global) -> Graph {
-    let mut graph = Graph::new(alloc);
-    if graph.add_vertex(name(rt, b'a')).is_err() {
-        assert!(rt; graph.add_vertex(name(rt, b'a')).is_ok());
-    }
-    graph
-}
+use tg_graph::{Act, Graph, Right};
+use tg_graph_trials::graph;
+use tg_hall::{Event, Hall, HallFault, HallReply, StoreFault};
+use tg_hall_trials::Deed::{Begin, Commit, Create, Learn, PutOnce, Share};
+use tg_hall_trials::Word::{Did, Done, Learned, No, Put, Yes};
+use tg_hall_trials::{Row, act_reply, event_reply, holds, reply_of};
 
 // Two seats and four cells over the graph, where memory was not refused.
 fn made(rt: &impl Abort, alloc: Global, graph: &Graph) -> Option<Hall> {
@@ -32,10 +22,13 @@ fn made(rt: &impl Abort, alloc: Global, graph: &Graph) -> Option<Hall> {
 
 // Two seats and four cells over the vertex a.
 fn opened(rt: &impl Abort, alloc: Global) -> Hall {
-    let graph = one(rt, alloc);
-    match made(rt, alloc, &graph) {
+    let opening = match graph(alloc, "a", "") {
+        Some(opening) => opening,
+        None => graph(alloc, "a", "").expect(rt, "a graph"),
+    };
+    match made(rt, alloc, &opening) {
         Some(hall) => hall,
-        None => made(rt, alloc, &graph).expect(rt, "a hall"),
+        None => made(rt, alloc, &opening).expect(rt, "a hall"),
     }
 }
 
@@ -49,14 +42,14 @@ fn happened(rt: &impl Abort, hall: &mut Hall, row: &Row) {
     let len = hall.len();
     let first = hall.taken(1);
     let second = hall.taken(2);
-    let mut answer = hall.step(event_of(rt, seat, deed));
+    let mut answer = event_reply(hall, seat, deed).expect(rt, "an event");
     if is_refused_memory(answer) {
         assert!(rt; hall.len() == len);
         assert!(rt; hall.taken(1) == first);
         assert!(rt; hall.taken(2) == second);
-        answer = hall.step(event_of(rt, seat, deed));
+        answer = event_reply(hall, seat, deed).expect(rt, "an event");
     }
-    assert!(rt; answer == reply_of(rt, word));
+    assert!(rt; reply_of(word) == Some(answer));
 }
 
 fn happen(rt: &impl Abort, hall: &mut Hall, rows: &[Row]) {
@@ -69,12 +62,12 @@ fn happen(rt: &impl Abort, hall: &mut Hall, rows: &[Row]) {
 fn told(rt: &impl Abort, hall: &mut Hall, row: &Row) {
     let (seat, deed, word) = *row;
     let len = hall.len();
-    let mut answer = hall.act(seat, &act_of(rt, deed));
+    let mut answer = act_reply(hall, seat, deed).expect(rt, "an act");
     if is_refused_memory(answer) {
         assert!(rt; hall.len() == len);
-        answer = hall.act(seat, &act_of(rt, deed));
+        answer = act_reply(hall, seat, deed).expect(rt, "an act");
     }
-    assert!(rt; answer == reply_of(rt, word));
+    assert!(rt; reply_of(word) == Some(answer));
 }
 
 fn act(rt: &impl Abort, hall: &mut Hall, rows: &[Row]) {
@@ -95,7 +88,7 @@ fn ends(rt: &impl Abort, hall: &Hall, len: usize, x: u8, y: u8) {
     match last_of(hall) {
         Ok(last) => {
             assert!(rt; last.len() == len);
-            assert!(rt; has(rt, &last, x, Right::R, y));
+            assert!(rt; holds(&last, x, Right::R, y));
         }
         Err(AllocError) => panic!(rt; "no graph"),
     }
@@ -181,7 +174,7 @@ fn refused_under_a_session(rt: HostRuntime) {
 
 // A run of a begin and a put. One that was refused memory for its replies has done nothing.
 fn run(rt: &impl Abort, hall: &mut Hall) -> Option<[HallReply; 2]> {
-    match hall.run(&[event_of(rt, 1, Begin), event_of(rt, 1, PutOnce)]) {
+    match hall.run(&[Event::Begin(1), Event::Put(1)]) {
         Ok(replies) => match replies.as_slice() {
             [begun, put] => Some([*begun, *put]),
             _ => panic!(rt; "not two replies"),
@@ -243,11 +236,11 @@ fn events_beside_a_session_that_knows(rt: HostRuntime) {
     for row in &rows {
         let (seat, deed, word) = *row;
         let knew = hall.knows_any();
-        let reply = hall.step(event_of(&rt, seat, deed));
+        let reply = event_reply(&mut hall, seat, deed).expect(&rt, "an event");
         if is_refused_beside(&rt, knew, reply) {
             happened(&rt, &mut hall, row);
         } else {
-            assert!(rt; reply == reply_of(&rt, word));
+            assert!(rt; reply_of(word) == Some(reply));
         }
     }
 }
@@ -257,7 +250,7 @@ fn an_act_beside_a_session_that_knows(rt: HostRuntime) {
     let mut hall = opened(&rt, rt.alloc());
     know(&rt, &mut hall);
     let knew = hall.knows_any();
-    let reply = hall.act(2, &act_of(&rt, Begin));
+    let reply = hall.act(2, &Act::Begin);
     assert!(rt; !is_refused_beside(&rt, knew, reply));
     assert!(rt; hall.taken(2) == Some(1));
 }
@@ -267,9 +260,7 @@ fn a_run_beside_a_session_that_knows(rt: HostRuntime) {
     let mut hall = opened(&rt, rt.alloc());
     know(&rt, &mut hall);
     let knew = hall.knows_any();
-    let ran = hall
-        .run(&[event_of(&rt, 2, Begin), event_of(&rt, 2, Learn)])
-        .is_ok();
+    let ran = hall.run(&[Event::Begin(2), Event::Learn(2)]).is_ok();
     assert!(rt; ran || !knew);
 }
 
@@ -278,7 +269,7 @@ fn a_run_beside_a_session_that_knows(rt: HostRuntime) {
 fn a_refused_put_after_questions(rt: HostRuntime) {
     let mut hall = opened(&rt, rt.alloc());
     know(&rt, &mut hall);
-    let reply = hall.step(event_of(&rt, 1, PutOnce));
+    let reply = hall.step(Event::Put(1));
     assert!(rt; !hall.knows_any());
     if is_refused_memory(reply) {
         happened(&rt, &mut hall, &(1, PutOnce, Put(1)));
