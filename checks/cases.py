@@ -13,66 +13,37 @@ a report of more than 1 MiB, and runs that take over 60 seconds.
 
 Each ask counts as one. What is wrong in a file counts too, whatever is named: an ask without status or
 report, a case without ask, a text that no ask uses, a line that is none, a file in cases/ that is
-neither a file of cases nor README.md; so does a NAME that nothing has. The last line is `N passed,
-M failed`; the status is 1 where something failed, and where no case was found.
+neither a file of cases nor README.md; so does a NAME that nothing has. Each time it first tries whether
+it finds such faults, and wrong answers, in small files that have them, with cat for the program.
+
+The last line is `N passed, M failed`; the status is 1 where something failed, and where no case was
+found.
 """
 import argparse
 import os
 import sys
 import time
-from concurrent.futures import ThreadPoolExecutor
-from functools import partial
 from pathlib import Path
 
-from cases_parts.reading import read_file
-from cases_parts.running import difference_of
+from cases_parts.faults import own_faults
+from cases_parts.finding import Found
+from cases_parts.running import differences_with
 from cases_parts.trial import differences_in_trial
 
 TOP = Path(__file__).resolve().parent.parent
 CRATE = TOP / "crates/officer"
 PROGRAM = CRATE / "out/officer"
-CASES = TOP / "cases"
-SUFFIX = ".cases"
-
-
-def files_in(folder):
-    """The files of cases in a folder, and what is wrong with its files."""
-    paths = sorted(folder.iterdir()) if folder.is_dir() else []
-    files = [read_file(path) for path in paths if path.suffix == SUFFIX and path.is_file()]
-    faults = [
-        f"{path.name}: it is neither a file of cases nor README.md"
-        for path in paths
-        if path.suffix != SUFFIX and path.name != "README.md" or not path.is_file()
-    ]
-    faults += [f"{it.command}{SUFFIX} line {line}: {fault}" for it in files for line, fault in it.faults]
-    return files, faults
-
-
-def asks_named(files, names):
-    """What the named cases ask, and where no name is given what all do: each whole ask with its title."""
-    for file in files:
-        for case in file.cases:
-            if not names or file.command in names or case.name in names:
-                for ask in case.whole_asks():
-                    yield f"{file.command}{SUFFIX} line {ask.place}, {case.name}: {ask.line()}", ask
-
-
-def idle_names(files, names):
-    """The names that no command and no case has."""
-    known = {name for file in files for name in (file.command, *(case.name for case in file.cases))}
-    return [f"no command and no case is named {name}" for name in names if name not in known]
 
 
 def options():
-    """What the command line asks for: the program, the names, whether it is a trial, and the folder of the cases."""
+    """What the command line asks for: the program, the names, and whether it is a trial."""
     parser = argparse.ArgumentParser(
-        usage="cases.py [PROGRAM] [NAME..] [--trial] [--folder FOLDER]",
+        usage="cases.py [PROGRAM] [NAME..] [--trial]",
         description=__doc__,
         formatter_class=argparse.RawDescriptionHelpFormatter,
     )
     parser.add_argument("words", nargs="*", metavar="PROGRAM, NAME..")
     parser.add_argument("--trial", action="store_true", help="try a build of which nothing is proved")
-    parser.add_argument("--folder", type=Path, default=CASES, help="where the cases are, if not in cases/")
     given = parser.parse_intermixed_args()
     given.program = PROGRAM
     if given.words and "/" in given.words[0]:
@@ -84,32 +55,22 @@ def options():
     return given
 
 
-def differences_of(given, asks):
-    """What differs in each ask, as lines; None where it was skipped."""
-    if given.trial:
-        print("A trial build is made, and tried: nothing is proved.", flush=True)
-        return differences_in_trial(CRATE, asks)
-    with ThreadPoolExecutor(os.cpu_count()) as pool:
-        return list(pool.map(partial(difference_of, given.program), asks))
-
-
 def main():
     """Tries the cases that the command line names."""
     given, begun = options(), time.monotonic()
-    files, faults = files_in(given.folder)
-    faults += idle_names(files, given.words)
-    titled = list(asks_named(files, given.words))
-    if not titled:
-        faults.append("no case was found")
-    differences = differences_of(given, [ask for _, ask in titled])
-    failures = ["\n  ".join([title, *lines]) for (title, _), lines in zip(titled, differences) if lines]
-    for failure in faults + failures:
-        print(f"FAILED {failure}")
+    found = Found(TOP / "cases", given.words)
     if given.trial:
-        print(f"{differences.count(None)} skipped; nothing was proved")
+        print("A trial build is made, and given each ask: nothing is proved.", flush=True)
+        differences = differences_in_trial(CRATE, found.asks)
+        print(f"{differences.count(None)} asks skipped; nothing was proved")
+    else:
+        differences = differences_with(given.program, found.asks)
+    failures = own_faults() + found.failures(differences)
+    for failure in failures:
+        print(f"FAILED {failure}")
     print(f"{time.monotonic() - begun:.0f} seconds")
-    print(f"{differences.count([])} passed, {len(faults) + len(failures)} failed")
-    sys.exit(1 if faults or failures else 0)
+    print(f"{differences.count([])} passed, {len(failures)} failed")
+    sys.exit(1 if failures else 0)
 
 
 if __name__ == "__main__":

@@ -1,6 +1,9 @@
 """Gives asks to the program, and says where its answers differ."""
+import os
 import subprocess
 import tempfile
+from concurrent.futures import ThreadPoolExecutor
+from functools import partial
 from itertools import zip_longest
 from pathlib import Path
 
@@ -11,8 +14,14 @@ LONGEST_RUN = 60
 MOST_DIFFERENCES = 4
 
 
+def differences_with(program, asks):
+    """What differs in each ask when the program is given it, as lines; none where all is as it has to be."""
+    with ThreadPoolExecutor(os.cpu_count()) as pool:
+        return list(pool.map(partial(difference_of, program), asks))
+
+
 def difference_of(program, ask):
-    """What differs when the program is given an ask, as lines; nothing where all is as it has to be."""
+    """What differs when the program is given an ask, as lines."""
     with tempfile.TemporaryDirectory(prefix="cases-") as folder:
         for name, text in ask.texts.items():
             Path(folder, name).write_bytes(text.bytes)

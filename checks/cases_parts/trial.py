@@ -35,21 +35,22 @@ def lines_of_trial(crate, names):
         cases, data = Path(folder, "cases"), Path(folder, "data")
         cases.mkdir()
         data.mkdir()
+        files = {}  # (the same bytes stand in one file, whatever asks call them)
         for name, ask in names.items():
-            write_ask(cases / name, data, ask)
-        words = [word for path in data.iterdir() for word in ("--data", f"{path.name}={path}")]
+            write_ask(cases / name, files, ask)
+        for text, file in files.items():
+            (data / file).write_bytes(text)
+        words = [word for file in files.values() for word in ("--data", f"{file}={data / file}")]
         how = {"stdin": subprocess.DEVNULL, "stdout": subprocess.PIPE, "stderr": subprocess.STDOUT}
         said = subprocess.run(["rt", "try", *words, "--cases", cases], cwd=crate, **how).stdout
         return said.decode(errors="backslashreplace").splitlines()
 
 
-def write_ask(path, data, ask):
-    """Writes an ask as the files that `rt try` reads, and its texts to the folder of data."""
-    files = {word: f"{path.name}.{number}" for number, word in enumerate(ask.texts)}
-    for word, name in files.items():
-        (data / name).write_bytes(ask.texts[word].bytes)
+def write_ask(path, files, ask):
+    """Writes an ask as `rt try` reads it. In files each text is given the name of a file."""
+    named = {word: files.setdefault(text.bytes, f"text{len(files)}") for word, text in ask.texts.items()}
     path.write_bytes(ask.standard_input.bytes if ask.standard_input else b"")
-    path.with_suffix(".args").write_text("".join(f"{files.get(word, word)}\n" for word in ask.words))
+    path.with_suffix(".args").write_text("".join(f"{named.get(word, word)}\n" for word in ask.words))
     path.with_suffix(".stdout").write_bytes(ask.report.bytes)
 
 
