@@ -3,8 +3,8 @@
 
 cases.py [PROGRAM] [NAME..] [--trial]. cases/README.md says what a case is. PROGRAM is a path with a
 slash, crates/officer/out/officer where none is given; it has to be there, and nothing is proved. NAME
-is a command, for all cases of its file, or a case. Of each ask the status, the report and standard
-error are compared, and what differs is shown by line.
+is a file without its `.cases`, for all cases in it, or a case. Of each ask the status, the report and
+standard error are compared, and what differs is shown by line.
 
 With --trial the program is not needed: `rt try --cases` builds the sources as they are, once, with no
 proof, and is given each ask. Its lines tell of a run the status and whether the report is the wanted

@@ -64,6 +64,7 @@ SPOILED = [
     ("ask -", " ask -", "line 10: '' begins no line"),
     ("ask -", "| \\a\nask -", "line 10: \\a is no escape"),
     ("ask -", "| \\x0g\nask -", "line 10: \\x is no escape"),
+    ("ask -", "* 2 \\{n}\nask -", "line 10: \\ is no escape"),
     ("ask -", "* 0x1 a\nask -", "line 10: a line that stands several times begins with * and a number"),
     ("ask -", "ask - < three.text\nask -", "line 10: no text three.text stands above the ask"),
     ("ask -", "ask 'a\nask -", "line 10: No closing quotation"),
@@ -75,7 +76,7 @@ FOLDERS = [
     ({"a.cases": "# A comment.\n"}, [], "a.cases line 2: the file has no case"),
     ({"a.cases": GOOD, "b.case": GOOD}, [], "b.case: it is neither a file of cases nor README.md"),
     ({"a.cases": GOOD, "b.cases/README.md": ""}, [], "b.cases: it is neither a file of cases nor README.md"),
-    ({"a.cases": GOOD}, ["a", "b"], "no command and no case is named b"),
+    ({"a.cases": GOOD}, ["a", "b"], "no file and no case is named b"),
     ({"a.cases": GOOD, "b.cases": GOOD + OTHER_TEXT}, ["a"], "b.cases line 16: no ask uses the text two.text"),
     ({"a.cases": "case \udcff\n"}, [], "a.cases line 1: the file is no UTF-8 text"),
 ]
@@ -88,6 +89,15 @@ SPELLED = {
     "\\\\": b"\\\n",
     "a\\\\\\": b"a\\",
     "\\r\\t\\0\\xff\\x5c\\xAb": b"\r\t\0\xff\\\xab\n",
+}
+# Lines that stand twice.
+NUMBERED = {
+    "": b"\n\n",
+    "a\\": b"aa",
+    "{n} {n}\\x7b": b"0 0{\n1 1{\n",
+    "{nnn}{nn+9}": b"00009\n00110\n",
+    "{n+10}\\x0a{2n+1}": b"10\n1\n11\n3\n",
+    "{m}{}": b"{m}{}\n{m}{}\n",
 }
 
 
@@ -121,8 +131,9 @@ def misread_lines():
             yield f"{line!r} is read as {bytes_of(line)}"
         if bytes_of(spelled(wanted)) != wanted:
             yield f"{wanted} is shown as {spelled(wanted)!r}"
-    if numbered_bytes("v{n} {n}\\x7b", 2) != b"v0 0{\nv1 1{\n":
-        yield "a numbered line is misread"
+    for line, wanted in NUMBERED.items():
+        if numbered_bytes(line, 2) != wanted:
+            yield f"{line!r} is read as {numbered_bytes(line, 2)} where it stands twice"
 
 
 def own_faults():

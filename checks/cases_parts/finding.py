@@ -23,16 +23,16 @@ class Found:
             for path in paths
             if not is_case_file(path) and path.name != PAGE
         ]
-        self.faults += [f"{it.command}{SUFFIX} line {line}: {fault}" for it in files for line, fault in it.faults]
+        self.faults += [f"{it.name}{SUFFIX} line {line}: {fault}" for it in files for line, fault in it.faults]
         self.faults += idle_names(files, names)
         if not self.asks:
             self.faults.append("no case was found")
 
     def take(self, file, names):
         """Takes the asks of a file that are named, those that lack something left out."""
-        cases = [it for it in file.cases if not names or file.command in names or it.name in names]
+        cases = [it for it in file.cases if not names or file.name in names or it.name in names]
         for case, ask in ((case, ask) for case in cases for ask in case.asks if not any(ask.faults())):
-            self.titles.append(f"{file.command}{SUFFIX} line {ask.place}, {case.name}: {ask.line()}")
+            self.titles.append(f"{file.name}{SUFFIX} line {ask.place}, {case.name}: {ask.line()}")
             self.asks.append(ask)
 
     def failures(self, differences):
@@ -47,6 +47,6 @@ def is_case_file(path):
 
 
 def idle_names(files, names):
-    """A fault for each name that no command and no case has."""
-    known = {name for file in files for name in (file.command, *(case.name for case in file.cases))}
-    return [f"no command and no case is named {name}" for name in names if name not in known]
+    """A fault for each name that no file and no case has."""
+    known = {name for file in files for name in (file.name, *(case.name for case in file.cases))}
+    return [f"no file and no case is named {name}" for name in names if name not in known]

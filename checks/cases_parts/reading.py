@@ -204,9 +204,9 @@ class Reader:
 
 @dataclass
 class CaseFile:
-    """A file of cases: the command that it is named after, its cases, and its faults with their lines."""
+    """A file of cases: its name without the ending, its cases, and its faults with their lines."""
 
-    command: str
+    name: str
     cases: list
     faults: list
 

@@ -4,7 +4,8 @@ import re
 ESCAPES = {"\\": b"\\", "r": b"\r", "t": b"\t", "0": b"\0"}
 # A backslash with what makes an escape of it, or a backslash with whatever stands behind it.
 ESCAPE = re.compile(r"\\(x[0-9A-Fa-f]{2}|.|$)", re.DOTALL)
-NUMBER = "{n}"
+# A number of a line that stands several times: {n}, {n+1}, {2n+1}, or with zeros before it {nnnn}.
+NUMBER = re.compile(r"\{(?P<factor>[0-9]{0,4})(?P<digits>n+)(?:\+(?P<first>[0-9]{1,7}))?\}")
 # How many characters of a long line are shown.
 MOST_SHOWN = 120
 
@@ -15,26 +16,53 @@ class SpellingFault(Exception):
 
 def bytes_of(spelled):
     """The bytes of a line, its line feed among them."""
-    found, place = [], 0
-    for escape in ESCAPE.finditer(spelled):
-        found.append(spelled[place : escape.start()].encode())
-        place, sign = escape.end(), escape[1]
-        if not sign:
-            return b"".join(found)
-        if len(sign) == 3:
-            found.append(bytes.fromhex(sign[1:]))
-        elif sign in ESCAPES:
-            found.append(ESCAPES[sign])
-        else:
-            raise SpellingFault(f"\\{sign} is no escape")
-    return b"".join([*found, spelled[place:].encode(), b"\n"])
+    text, ending = without_ending(spelled)
+    return unescaped(text) + ending
 
 
 def numbered_bytes(spelled, count):
-    """The bytes of a line that stands so many times, with 0, 1, .. where {n} stands in it."""
-    parts = spelled.split(NUMBER)
-    between = [bytes_of(part)[:-1] for part in parts[:-1]] + [bytes_of(parts[-1])]
-    return b"".join(str(number).encode().join(between) for number in range(count))
+    """The bytes of a line that stands so many times, with what its numbers are for n = 0, 1, .."""
+    text, ending = without_ending(spelled)
+    numbers, parts, place = list(NUMBER.finditer(text)), [], 0
+    for number in numbers:
+        parts.append(unescaped(text[place : number.start()]))
+        place = number.end()
+    ending = unescaped(text[place:]) + ending
+    lines = []
+    for n in range(count):
+        lines += (part + number_for(number, n) for part, number in zip(parts, numbers))
+        lines.append(ending)
+    return b"".join(lines)
+
+
+def without_ending(spelled):
+    """A line without the backslash that says that no line feed follows, and its line feed, or nothing."""
+    backslashes = len(spelled) - len(spelled.rstrip("\\"))
+    return (spelled[:-1], b"") if backslashes % 2 else (spelled, b"\n")
+
+
+def unescaped(text):
+    """The bytes of a piece of a line."""
+    found, place = [], 0
+    for escape in ESCAPE.finditer(text):
+        found += [text[place : escape.start()].encode(), byte_of(escape[1])]
+        place = escape.end()
+    return b"".join([*found, text[place:].encode()])
+
+
+def byte_of(sign):
+    """What stands behind a backslash, as the byte that it is for."""
+    if len(sign) == 3:
+        return bytes.fromhex(sign[1:])
+    if sign not in ESCAPES:
+        raise SpellingFault(f"\\{sign} is no escape")
+    return ESCAPES[sign]
+
+
+def number_for(number, n):
+    """What a number of a line is for n."""
+    value = int(number["factor"] or 1) * n + int(number["first"] or 0)
+    return str(value).zfill(len(number["digits"])).encode()
 
 
 def spelled(line):
