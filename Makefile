@@ -15,6 +15,7 @@
 #                 before it for packagers
 # make uninstall  takes these four files away again
 # make examples   compares what each example prints with what is stored beside it
+# make cases      gives the program what each case of cases/ asks, and compares how it ends: seconds
 # make pictures   draws the examples; wants Graphviz
 # make bench      time and peak memory of each command on heavy inputs, of 1,024 and of 4,096 vertices
 # make memory     how much memory a cut asks for, counted and held against its bound: seconds
@@ -50,7 +51,7 @@ LESS_OF_CLUSTER = $(foreach kind,groups secrets pods services events,--without '
 # 9.5 GB, and leaves processors idle.
 RT_JOBS ?= $(shell awk -v most=$$(nproc) '/^MemTotal/ { n = int($$2 / 5e6); print n < 1 ? 1 : n < most ? n : most }' /proc/meminfo)
 
-.PHONY: build demo there help examples pictures test bodies refusals man install uninstall bench memory races hostile fuzz limits rbac pipeline
+.PHONY: build demo there help examples cases pictures test bodies refusals man install uninstall bench memory races hostile fuzz limits rbac pipeline
 
 build:
 	@echo "Proving and building officer and the crates below it: about half an hour on four slow processors from nothing, seconds after that."
@@ -135,6 +136,9 @@ examples: there
 	@python3 $(TILLS).py | $(OFFICER) verify /dev/stdin $(TILLS).broken.policy --why | diff - $(TILLS).broken.out
 	$(call each_picture,compare_picture)
 	@echo "Each example prints what is stored beside it."
+
+cases: there
+	@python3 checks/cases.py $(OFFICER)
 
 # The pictures: of each its name, the text that is drawn, and what is asked of it.
 define each_picture

@@ -2,13 +2,9 @@
 #![tactic(auto)]
 
 #[cfg(test)]
-mod call_tests;
-#[cfg(test)]
 mod cut_report_tests;
 #[cfg(test)]
 mod famine_tests;
-#[cfg(test)]
-mod limit_tests;
 #[cfg(test)]
 mod memory_tests;
 #[cfg(test)]
@@ -16,16 +12,10 @@ mod policy_report_tests;
 #[cfg(test)]
 mod race_tests;
 #[cfg(test)]
-mod run_tests;
-#[cfg(test)]
 mod table_report_tests;
 #[cfg(test)]
 mod test_reports;
 #[cfg(test)]
 mod test_words;
-#[cfg(test)]
-mod tests;
-#[cfg(test)]
-mod version_tests;
 #[cfg(test)]
 mod who_tests;
