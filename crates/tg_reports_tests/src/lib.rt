@@ -27,5 +27,3 @@ mod test_words;
 mod tests;
 #[cfg(test)]
 mod version_tests;
-#[cfg(test)]
-mod who_tests;
