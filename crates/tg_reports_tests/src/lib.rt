@@ -12,8 +12,6 @@ mod limit_tests;
 #[cfg(test)]
 mod memory_tests;
 #[cfg(test)]
-mod policy_report_tests;
-#[cfg(test)]
 mod race_tests;
 #[cfg(test)]
 mod run_tests;
