@@ -4,8 +4,6 @@
 #[cfg(test)]
 mod call_tests;
 #[cfg(test)]
-mod cut_report_tests;
-#[cfg(test)]
 mod famine_tests;
 #[cfg(test)]
 mod limit_tests;
