@@ -9,5 +9,3 @@ mod famine_tests;
 mod memory_tests;
 #[cfg(test)]
 mod test_answers;
-#[cfg(test)]
-mod test_graphs;

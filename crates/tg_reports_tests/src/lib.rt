@@ -2,13 +2,9 @@
 #![tactic(auto)]
 
 #[cfg(test)]
-mod cut_report_tests;
-#[cfg(test)]
 mod famine_tests;
 #[cfg(test)]
 mod memory_tests;
-#[cfg(test)]
-mod policy_report_tests;
 #[cfg(test)]
 mod race_tests;
 #[cfg(test)]
@@ -17,5 +13,3 @@ mod table_report_tests;
 mod test_reports;
 #[cfg(test)]
 mod test_words;
-#[cfg(test)]
-mod who_tests;
