@@ -30,10 +30,11 @@ class Found:
 
     def take(self, file, names):
         """Takes the asks of a file that are named, those that lack something left out."""
-        cases = [it for it in file.cases if not names or file.name in names or it.name in names]
-        for case, ask in ((case, ask) for case in cases for ask in case.asks if not any(ask.faults())):
-            self.titles.append(f"{file.name}{SUFFIX} line {ask.place}, {case.name}: {ask.line()}")
-            self.asks.append(ask)
+        for case in file.cases:
+            if not names or file.name in names or case.name in names:
+                asks = case.whole_asks()
+                self.asks += asks
+                self.titles += (f"{file.name}{SUFFIX} line {ask.place}, {case.name}: {ask.line()}" for ask in asks)
 
     def failures(self, differences):
         """What is wrong with the files, and what differs in asks, each as text."""
