@@ -16,27 +16,11 @@ fn five(rt: &impl Abort, alloc: Global) -> Graph {
 // The rows of its table for read.
 const FIVE_ROWS: [&[u8]; 5] = [b"00100", b"00100", b"00000", b"10000", b"10000"];
 
+// More vertices than a text may have.
 #[test]
-fn the_same_for_all_workers(rt: HostRuntime) {
-    let g = five(&rt, rt.alloc());
-    for workers in &[1, 2, 16] {
-        assert_tabled(&rt, rt.alloc(), &g, *workers, &OpenGate, &FIVE_ROWS);
-    }
-}
-
-#[test]
-fn too_few_and_too_many(rt: HostRuntime) {
-    let g = five(&rt, rt.alloc());
-    assert_no_table(&rt, rt.alloc(), &g, 0, TableFault::Workers);
-    assert_no_table(&rt, rt.alloc(), &g, 17, TableFault::Workers);
-    let large = numbered(&rt, rt.alloc(), 4097);
-    assert_no_table(&rt, rt.alloc(), &large, 1, TableFault::TooLarge);
-}
-
-#[test]
-fn nobody(rt: HostRuntime) {
-    let g = Graph::new(rt.alloc());
-    assert_tabled(&rt, rt.alloc(), &g, 16, &OpenGate, &[]);
+fn too_large(rt: HostRuntime) {
+    let g = numbered(&rt, rt.alloc(), 4097);
+    assert_no_table(&rt, rt.alloc(), &g, 1, TableFault::TooLarge);
 }
 
 fn assert_cells(rt: &impl Abort, table: &PairTable, cells: &[(usize, usize)], yes: bool) {

@@ -1,12 +1,12 @@
-//! Graphs and rules for tests, in words: "a b c" are three vertices, "a b t, b c r" two edges, and
-//! "take a b c r" is a rule. A word that is none fails its test. The calls tell nothing of what they
-//! did, so the check of a test that makes many of them stays short.
+//! Graphs for tests, in words: "a b c" are three vertices, "a b t, b c r" two edges. A word that is none
+//! fails its test. The calls tell nothing of what they did, so the check of a test that makes many of them
+//! stays short.
 ghost use Rattle.tg_names.specs.Sets.{IsNamed};
 
 use std::alloc::Global;
 use std::process::Abort;
 use std::str::SplitWhitespace;
-use tg_graph::{Graph, Name, Right, Rights, Rule};
+use tg_graph::{Graph, Name, Right, Rights};
 
 pub(crate) fn name(rt: &impl Abort, word: &str) -> Name {
     Name::parse(word.as_bytes()).expect(rt, "a name")
@@ -17,17 +17,6 @@ pub(crate) fn set(rt: &impl Abort, letters: &str) -> Rights
     ensures { IsNamed result }
 {
     Rights::from_letters(letters.as_bytes()).expect(rt, "letters of rights")
-}
-
-/// The rules that a text says, with a comma after each but the last.
-pub(crate) fn assert_rules(rt: &impl Abort, rules: &[Rule], text: &str) {
-    let mut rest = rules.iter();
-    for line in text.split(',') {
-        if !line.is_empty() {
-            assert!(rt; rest.next() == Some(&rule(rt, line)));
-        }
-    }
-    assert!(rt; rest.next().is_none());
 }
 
 /// The right of a letter.
@@ -88,25 +77,4 @@ pub(crate) fn most_vertices(rt: &impl Abort, alloc: Global, edges: &str) -> Grap
     let mut graph = numbered(rt, alloc, 4096);
     add_edges(rt, &mut graph, edges);
     graph
-}
-
-/// The rule that a line says.
-pub(crate) fn rule(rt: &impl Abort, line: &str) -> Rule {
-    let mut words = line.split_whitespace();
-    let kind = word(rt, &mut words);
-    let x = name(rt, word(rt, &mut words));
-    let y = name(rt, word(rt, &mut words));
-    let last = word(rt, &mut words);
-    if kind == "create" {
-        let rights = set(rt, last);
-        return Rule::Create { x, n: y, rights };
-    }
-    assert!(rt; kind == "take" || kind == "grant");
-    let z = name(rt, last);
-    let rights = set(rt, word(rt, &mut words));
-    if kind == "take" {
-        Rule::Take { x, y, z, rights }
-    } else {
-        Rule::Grant { x, y, z, rights }
-    }
 }

@@ -1,5 +1,5 @@
 // Graphs that are built edge by edge, in orders in which edges wait for their rows and in others.
-use crate::test_values::{grant, name, remove, same, set, with_edge};
+use crate::test_values::{name, remove, same, set, with_edge};
 use bitflags::Flags;
 use std::alloc::Global;
 use std::process::Abort;
@@ -209,37 +209,5 @@ fn labels_of_rows_to_all_change(rt: HostRuntime) -> Result<(), Fail> {
     leads(&rt, &g, 6, 13, b"_20", b"gead");
     leads(&rt, &copy, 6, 12, b"_2", b"gead");
     assert!(rt; same(&g, &g.copy_unshared()?));
-    Ok(())
-}
-
-// As many vertices as a text may have.
-fn most_vertices(rt: &impl Abort, alloc: Global) -> GraphBuilder {
-    let mut builder = GraphBuilder::over(alloc, Graph::new(alloc));
-    for number in 0..4096 {
-        assert!(rt; builder.add_vertex(Name::helper(number)) == Ok(()));
-    }
-    builder
-}
-
-fn adds_edge(rt: &impl Abort, builder: &mut GraphBuilder, x: &[u8], y: &[u8], letters: &[u8]) {
-    assert!(rt; builder.add_edge(name(rt, x), name(rt, y), set(rt, letters)) == Ok(()));
-}
-
-// The first and the last of most vertices, with an edge each way.
-fn first_and_last(rt: &impl Abort, alloc: Global) -> GraphBuilder {
-    let mut builder = most_vertices(rt, alloc);
-    adds_edge(rt, &mut builder, b"_0", b"_4095", b"tg");
-    adds_edge(rt, &mut builder, b"_4095", b"_0", b"r");
-    builder
-}
-
-// Edges from and to the last of so many vertices are built, and one more is granted.
-#[test]
-fn edges_of_the_last_vertex(rt: HostRuntime) -> Result<(), Fail> {
-    let mut g = first_and_last(&rt, rt.alloc()).finish()?;
-    assert!(rt; g.apply(&grant(&rt, b"_0", b"_4095", b"_4095", b"t")) == Ok(()));
-    leads(&rt, &g, 0, 0, b"_4095", b"tg");
-    leads(&rt, &g, 4095, 0, b"_0", b"r");
-    leads(&rt, &g, 4095, 1, b"_4095", b"t");
     Ok(())
 }

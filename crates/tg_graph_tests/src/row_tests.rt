@@ -40,20 +40,6 @@ fn leads_in_order(rt: &impl Abort, g: &Graph) {
     }
 }
 
-#[test]
-fn edges_in_any_order_make_one_row(rt: HostRuntime) {
-    for targets in [
-        [0, 1, 2, 3, 4, 5],
-        [5, 4, 3, 2, 1, 0],
-        [5, 1, 0, 3, 2, 4],
-        [4, 2, 3, 0, 1, 5],
-        [3, 5, 0, 4, 1, 2],
-    ] {
-        let g = long_row(&rt, rt.alloc(), &targets);
-        leads_in_order(&rt, &g);
-    }
-}
-
 fn is_there(rt: &impl Abort, g: &mut Graph, x: &[u8], y: &[u8]) {
     assert!(rt; g.add_edge(name(rt, x), name(rt, y), set(rt, b"t")).is_err());
 }

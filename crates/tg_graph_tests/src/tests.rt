@@ -2,36 +2,20 @@ ghost use Rattle.tg_graph.specs.Rules.{rights_of};
 ghost use Rattle.tg_names.specs.Sets.{IsNamed};
 
 use crate::test_values::{
-    create, grant, name, reads, remove, row_lengths, same, set, stands_at, take, three, two,
-    with_edge, with_vertex,
+    create, name, reads, remove, row_lengths, same, set, stands_at, take, three, two, with_edge,
+    with_vertex,
 };
 use bitflags::Flags;
 use std::alloc::Global;
 use std::process::Abort;
 use std::test::Fail;
-use tg_graph::{
-    EdgeFault, Graph, Name, NameFault, Refusal, Right, Rights, Rule, RuleFault, VertexFault,
-};
+use tg_graph::{EdgeFault, Graph, Name, NameFault, Right, Rights, Rule, VertexFault};
 
 fn accepts(rt: &impl Abort, g: &mut Graph, rule: Rule)
     requires { IsNamed (rights_of rule) }
 {
     assert!(rt; g.check(&rule) == Ok(()));
     assert!(rt; g.apply(&rule) == Ok(()));
-}
-
-fn refuses(rt: &impl Abort, g: &mut Graph, rule: Rule, refusal: Refusal)
-    requires { IsNamed (rights_of rule) }
-{
-    assert!(rt; g.check(&rule).is_err());
-    assert!(rt; g.apply(&rule) == Err(RuleFault::Refused(refusal)));
-}
-
-// The rule is refused for z, which is no vertex.
-fn misses_z(rt: &impl Abort, g: &mut Graph, rule: Rule)
-    requires { IsNamed (rights_of rule) }
-{
-    refuses(rt, g, rule, Refusal::Unknown(name(rt, b"z")));
 }
 
 fn is_no_name(rt: &impl Abort, bytes: &[u8], fault: NameFault) {
@@ -106,30 +90,6 @@ fn letters(rt: HostRuntime) {
     assert!(rt;
         rights.count() == 3 && rights.letter(2) == Some(b'w') && rights.letter(3).is_none()
     );
-}
-
-fn is_no_set(rt: &impl Abort, word: &[u8]) {
-    assert!(rt; Rights::from_letters(word).is_none());
-}
-
-#[test]
-fn words_that_are_no_set(rt: HostRuntime) {
-    is_no_set(&rt, b"");
-    is_no_set(&rt, b"tt");
-    is_no_set(&rt, b"tgt");
-    is_no_set(&rt, b"tx");
-    is_no_set(&rt, b"T");
-    is_no_set(&rt, b"--");
-    is_no_set(&rt, b"t-");
-}
-
-#[test]
-fn all_letters_in_order(rt: HostRuntime) {
-    let all = set(&rt, b"dewrgta");
-    assert!(rt; all.count() == 7);
-    for (place, letter) in b"tgrwead".iter().enumerate() {
-        assert!(rt; all.letter(place) == Some(*letter));
-    }
 }
 
 #[test]
@@ -264,31 +224,6 @@ fn a_copy_apart(rt: HostRuntime) -> Result<(), Fail> {
     copies_apart(&rt, &g)
 }
 
-fn runs_two(rt: &impl Abort, g: &mut Graph) {
-    let rules = [
-        take(rt, b"a", b"b", b"c", b"r"),
-        remove(rt, b"b", b"c", b"r"),
-        take(rt, b"a", b"b", b"c", b"w"),
-        create(rt, b"a", b"n", b"-"),
-    ];
-    let fault = RuleFault::Refused(Refusal::NotHeld(set(rt, b"w")));
-    assert!(rt; g.run(&rules) == Err((2, fault)));
-}
-
-// What the run left: neither the third rule nor the last was applied.
-fn ran_two(rt: &impl Abort, g: &Graph) {
-    assert!(rt; reads(rt, g, b"a", b"c"));
-    assert!(rt; g.row_len(1) == 0 && !g.knows(name(rt, b"n")));
-}
-
-#[test]
-fn a_run_up_to_a_refusal(rt: HostRuntime) -> Result<(), Fail> {
-    let mut g = three(&rt, rt.alloc())?;
-    runs_two(&rt, &mut g);
-    ran_two(&rt, &g);
-    Ok(())
-}
-
 fn runs_all(rt: &impl Abort, g: &mut Graph) {
     let rules = [
         take(rt, b"a", b"b", b"c", b"r"),
@@ -301,104 +236,6 @@ fn runs_all(rt: &impl Abort, g: &mut Graph) {
 fn a_run_of_all(rt: HostRuntime) -> Result<(), Fail> {
     let mut g = three(&rt, rt.alloc())?;
     runs_all(&rt, &mut g);
-    Ok(())
-}
-
-fn refuses_takes(rt: &impl Abort, g: &mut Graph) {
-    misses_z(rt, g, take(rt, b"z", b"b", b"y", b"r"));
-    misses_z(rt, g, take(rt, b"a", b"b", b"z", b"r"));
-    refuses(rt, g, take(rt, b"a", b"b", b"b", b"-"), Refusal::Empty);
-    refuses(rt, g, take(rt, b"a", b"b", b"b", b"r"), Refusal::NoTake);
-}
-
-#[test]
-fn refused_takes(rt: HostRuntime) -> Result<(), Fail> {
-    let mut g = two(&rt, rt.alloc(), b"-")?;
-    refuses_takes(&rt, &mut g);
-    Ok(())
-}
-
-#[test]
-fn takes_of_what_is_not_held(rt: HostRuntime) -> Result<(), Fail> {
-    let mut g = three(&rt, rt.alloc())?;
-    let missing = Refusal::NotHeld(set(&rt, b"w"));
-    refuses(&rt, &mut g, take(&rt, b"a", b"b", b"c", b"rw"), missing);
-    Ok(())
-}
-
-fn refuses_first(rt: &impl Abort, g: &mut Graph) {
-    refuses(rt, g, grant(rt, b"b", b"a", b"c", b"-"), Refusal::Empty);
-    misses_z(rt, g, remove(rt, b"a", b"z", b"-"));
-    misses_z(rt, g, take(rt, b"z", b"y", b"a", b"-"));
-}
-
-#[test]
-fn the_first_refusal_of_several(rt: HostRuntime) -> Result<(), Fail> {
-    let mut g = three(&rt, rt.alloc())?;
-    refuses_first(&rt, &mut g);
-    Ok(())
-}
-
-// a gives up the letters over b, and then its row has this length.
-fn gives_up(rt: &impl Abort, g: &mut Graph, letters: &[u8], length: usize) {
-    accepts(rt, g, remove(rt, b"a", b"b", letters));
-    assert!(rt; g.row_len(0) == length);
-}
-
-fn removes_by_letter(rt: &impl Abort, g: &mut Graph) {
-    gives_up(rt, g, b"w", 1);
-    gives_up(rt, g, b"r", 0);
-    refuses(rt, g, remove(rt, b"a", b"b", b"-"), Refusal::Empty);
-}
-
-#[test]
-fn removes(rt: HostRuntime) -> Result<(), Fail> {
-    let mut g = two(&rt, rt.alloc(), b"r")?;
-    removes_by_letter(&rt, &mut g);
-    Ok(())
-}
-
-fn grants_g(rt: &impl Abort, g: &mut Graph) {
-    let missing = Refusal::NotHeld(set(rt, b"r"));
-    refuses(rt, g, grant(rt, b"b", b"a", b"a", b"r"), Refusal::NoGrant);
-    refuses(rt, g, grant(rt, b"a", b"b", b"b", b"r"), missing);
-    accepts(rt, g, grant(rt, b"a", b"b", b"b", b"g"));
-    assert!(rt; g.row_len(0) == 1);
-    has_edge_at(rt, g, 1, 0, b"b", b"g");
-}
-
-#[test]
-fn grants(rt: HostRuntime) -> Result<(), Fail> {
-    let mut g = two(&rt, rt.alloc(), b"g")?;
-    grants_g(&rt, &mut g);
-    Ok(())
-}
-
-fn grows_and_shrinks(rt: &impl Abort, g: &mut Graph) {
-    accepts(rt, g, grant(rt, b"a", b"b", b"b", b"r"));
-    accepts(rt, g, grant(rt, b"a", b"b", b"b", b"gt"));
-    accepts(rt, g, remove(rt, b"b", b"b", b"t"));
-    assert!(rt; g.row_len(1) == 1);
-    has_edge_at(rt, g, 1, 0, b"b", b"gr");
-}
-
-#[test]
-fn labels_that_grow_and_shrink(rt: HostRuntime) -> Result<(), Fail> {
-    let mut g = two(&rt, rt.alloc(), b"tgr")?;
-    grows_and_shrinks(&rt, &mut g);
-    Ok(())
-}
-
-fn refuses_creates(rt: &impl Abort, g: &mut Graph) {
-    let taken = Refusal::Taken(name(rt, b"a"));
-    refuses(rt, g, create(rt, b"a", b"a", b"-"), taken);
-    misses_z(rt, g, create(rt, b"z", b"b", b"-"));
-}
-
-#[test]
-fn refused_creates(rt: HostRuntime) -> Result<(), Fail> {
-    let mut g = two(&rt, rt.alloc(), b"-")?;
-    refuses_creates(&rt, &mut g);
     Ok(())
 }
 
@@ -420,19 +257,4 @@ fn creates(rt: HostRuntime) -> Result<(), Fail> {
     creates_apart(&rt, &mut g);
     creates_below(&rt, &mut g);
     Ok(())
-}
-
-// a takes t over itself from itself, and then has that alone.
-fn takes_in_place(rt: &impl Abort, g: &mut Graph) {
-    accepts(rt, g, take(rt, b"a", b"a", b"a", b"t"));
-    let a = name(rt, b"a");
-    assert!(rt; g.row_len(0) == 1 && g.label(a, a) == Some(set(rt, b"t")));
-}
-
-#[test]
-fn one_vertex_in_all_places(rt: HostRuntime) {
-    let mut g = Graph::new(rt.alloc());
-    with_vertex(&rt, &mut g, b"a");
-    with_edge(&rt, &mut g, b"a", b"a", b"t");
-    takes_in_place(&rt, &mut g);
 }

@@ -4,8 +4,6 @@
 #[cfg(test)]
 mod famine_tests;
 #[cfg(test)]
-mod fault_tests;
-#[cfg(test)]
 mod memory_tests;
 #[cfg(test)]
 mod policy_tests;

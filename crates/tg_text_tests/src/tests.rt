@@ -1,10 +1,11 @@
 // What is read, where there is memory enough.
-use crate::test_helpers::{repeated, rules};
-use std::alloc::{AllocError, Global};
-use std::process::Abort;
+use crate::test_helpers::rules;
 use std::test::Fail;
-use tg_graph::{Act, Name, Right, Rights, Step};
-use tg_text::{TextFault, cut_line, cut_word, read_graph, read_rule, read_rules, read_script};
+use tg_graph::{Name, Right, Rights};
+use tg_text::{TextKind, cut_line, cut_word, read_graph, read_rule, read_rules, read_script};
+
+// A line that is one byte too long.
+const LONG: [u8; 257] = [b'#'; 257];
 
 #[test]
 fn a_line_and_its_words(rt: HostRuntime) {
@@ -61,33 +62,6 @@ fn a_graph(rt: HostRuntime) -> Result<(), Fail> {
     Ok(())
 }
 
-// A source that comes again, with a target that is the next vertex and with one that is not; and
-// names that begin like one another.
-#[test]
-fn edges_in_turn_and_out_of_turn(rt: HostRuntime) -> Result<(), Fail> {
-    let graph = read_graph(
-        rt.alloc(),
-        b"vertex a\nvertex ab\nedge a a t\nedge a ab g\nedge ab ab r\nedge ab a w\n",
-    )?;
-    let a = Name::parse(b"a")?;
-    let ab = Name::parse(b"ab")?;
-    assert!(rt; graph.label(a, a) == Some(Rights::of(Right::T)));
-    assert!(rt; graph.label(a, ab) == Some(Rights::of(Right::G)));
-    assert!(rt; graph.label(ab, ab) == Some(Rights::of(Right::R)));
-    assert!(rt; graph.label(ab, a) == Some(Rights::of(Right::W)));
-    Ok(())
-}
-
-#[test]
-fn texts_without_items(rt: HostRuntime) -> Result<(), Fail> {
-    assert!(rt; read_graph(rt.alloc(), b"")?.len() == 0);
-    assert!(rt; read_rules(rt.alloc(), b"\n# x\n")?.is_empty());
-    // A line may have 256 bytes.
-    let longest = repeated(rt.alloc(), b"", b"#", 256)?;
-    assert!(rt; read_graph(rt.alloc(), &longest)?.len() == 0);
-    Ok(())
-}
-
 #[test]
 fn each_rule(rt: HostRuntime) -> Result<(), Fail> {
     let rw = Rights::of(Right::R).union(Rights::of(Right::W));
@@ -100,6 +74,23 @@ fn each_rule(rt: HostRuntime) -> Result<(), Fail> {
     let [take, ..] = rules(ad)?;
     assert!(rt; read_rule(b"take a b c da") == Ok(take));
     Ok(())
+}
+
+#[test]
+fn faults_of_one_rule(rt: HostRuntime) {
+    let rows: [(&[u8], TextKind); 8] = [
+        (&LONG, TextKind::LineTooLong),
+        (b"# x", TextKind::BadWord),
+        (b"", TextKind::BadWord),
+        (b"share r a b", TextKind::BadWord),
+        (b"take a b c r r", TextKind::WordCount),
+        (b"remove 9 b", TextKind::WordCount),
+        (b"create a 9 -", TextKind::BadName),
+        (b"grant a b c x", TextKind::BadRights),
+    ];
+    for (line, kind) in rows {
+        assert!(rt; read_rule(line) == Err(kind));
+    }
 }
 
 #[test]
@@ -117,84 +108,6 @@ fn rules_with_their_lines(rt: HostRuntime) -> Result<(), Fail> {
             assert!(rt; found.line == line && found.rule == rule);
         }
     }
-    Ok(())
-}
-
-// That an event of the only seat is read as this act.
-fn acts(rt: &impl Abort, alloc: Global, event: &[u8], act: Act) -> Result<(), TextFault> {
-    let script = match repeated(alloc, b"# x\nseats 1\ncells 1\n", event, 1) {
-        Ok(text) => read_script(alloc, &text)?,
-        Err(AllocError) => return Err(TextFault::Memory),
-    };
-    assert!(rt; script.seats == 1 && script.cells == 1);
-    assert!(rt; script.lines.len() == 1);
-    for event in &script.lines {
-        assert!(rt; event.line == 4 && event.seat == 1);
-        assert!(rt; event.act == act);
-    }
-    Ok(())
-}
-
-#[test]
-fn acts_without_a_step(rt: HostRuntime) -> Result<(), Fail> {
-    acts(&rt, rt.alloc(), b"1 begin", Act::Begin)?;
-    acts(&rt, rt.alloc(), b"1 commit\n", Act::Commit)?;
-    acts(&rt, rt.alloc(), b"1\tabort\r\n", Act::Abort)?;
-    Ok(())
-}
-
-#[test]
-fn acts_with_a_rule(rt: HostRuntime) -> Result<(), Fail> {
-    let [take, grant, create, remove] = rules(Rights::of(Right::E))?;
-    acts(
-        &rt,
-        rt.alloc(),
-        b"1 take a b c e",
-        Act::Stage(Step::Do(take)),
-    )?;
-    acts(
-        &rt,
-        rt.alloc(),
-        b"1 grant a b c e",
-        Act::Stage(Step::Do(grant)),
-    )?;
-    acts(
-        &rt,
-        rt.alloc(),
-        b"1 create a b e",
-        Act::Stage(Step::Do(create)),
-    )?;
-    acts(
-        &rt,
-        rt.alloc(),
-        b"1 remove a b e",
-        Act::Stage(Step::Do(remove)),
-    )?;
-    Ok(())
-}
-
-#[test]
-fn acts_with_a_question(rt: HostRuntime) -> Result<(), Fail> {
-    let x = Name::parse(b"a")?;
-    let y = Name::parse(b"b")?;
-    let holds = Step::Holds {
-        right: Right::T,
-        x,
-        y,
-    };
-    acts(&rt, rt.alloc(), b"1 holds t a b", Act::Stage(holds))?;
-    let share = Step::Share {
-        right: Right::W,
-        x,
-        y,
-    };
-    acts(&rt, rt.alloc(), b"1 share w a b", Act::Stage(share))?;
-    let holds = Step::Holds {
-        right: Right::D,
-        x,
-        y,
-    };
-    acts(&rt, rt.alloc(), b"1 holds d a b", Act::Stage(holds))?;
     Ok(())
 }
 
