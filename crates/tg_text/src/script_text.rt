@@ -39,7 +39,7 @@ pub struct Script {
 
 /// How much of a script's header has come.
 #[derive(Clone, Copy, PartialEq, Eq, Debug)]
-pub(crate) enum Header {
+pub enum Header {
     Nothing,
     Seats(u32),
     Whole { seats: u32, cells: u32 },
