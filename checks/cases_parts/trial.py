@@ -9,7 +9,7 @@ from cases_parts.running import differing_numbers
 MOST_BYTES = 1 << 20
 RUN = re.compile(r"case=(?P<name>\S+) run=(?P<run>\S+)(?: status=(?P<status>\d+))?(?:.* output=(?P<output>\S+))?")
 TOO_LONG = "did not end within the time limit"
-# How many lines of what the build says are shown where nothing was tried.
+# How many lines of what `rt try` says are shown where it leaves out asks.
 MOST_SHOWN = 30
 
 
@@ -18,8 +18,8 @@ def differences_in_trial(crate, asks):
     names = {f"ask{number}": ask for number, ask in enumerate(asks) if is_small(ask)}
     said = lines_of_trial(crate, names) if names else []
     found = dict(runs_in(said))
-    if names and not found:
-        print("\n".join(said[-MOST_SHOWN:]))
+    if len(found) < len(names):
+        print("rt try does not speak of all asks. The end of what it says:", *said[-MOST_SHOWN:], sep="\n")
     return [difference_of(ask, found.get(f"ask{number}")) if is_small(ask) else None for number, ask in enumerate(asks)]
 
 
