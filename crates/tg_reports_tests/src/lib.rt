@@ -10,6 +10,4 @@ mod race_tests;
 #[cfg(test)]
 mod table_report_tests;
 #[cfg(test)]
-mod test_reports;
-#[cfg(test)]
 mod test_words;
