@@ -4,7 +4,7 @@ use bitflags::Flags;
 use std::alloc::Global;
 use std::process::Abort;
 use tg_analysis::AskFault;
-use tg_graph::{Graph, Name, Right, Rights};
+use tg_graph::{Graph, Right, Rights};
 
 #[test]
 fn bits_that_stand_for_no_right(rt: HostRuntime) {
