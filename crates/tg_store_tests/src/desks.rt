@@ -5,11 +5,11 @@ ghost use Rattle.tg_hall.specs.Acts.{IsStageableAct};
 ghost use Rattle.tg_store.specs.Running.{IsOf};
 ghost use Rattle.tg_hall.specs.StepWords.{IsNamedStep};
 
-use crate::scripts::{Row, act_of, reply_of};
 use std::alloc::{AllocError, Global};
 use std::mem;
 use std::process::Abort;
 use tg_graph::{Act, Graph, Step};
+use tg_hall_trials::{Row, act_of, is_reply};
 use tg_store::{
     Begun, CommitFault, Committed, HallFault, HallReply, Seat, Session, Store, StoreFault,
 };
@@ -245,8 +245,9 @@ impl Desk {
     pub fn play(&mut self, rt: &impl Abort, rows: &[Row]) {
         for at in 0..rows.len() {
             let (seat, deed, word) = rows[at];
-            let reply = self.act(rt, seat, &act_of(rt, deed));
-            assert!(rt; reply == reply_of(rt, word), "row {at}");
+            let deed = act_of(deed).expect(rt, "an act");
+            let reply = self.act(rt, seat, &deed);
+            assert!(rt; is_reply(word, reply), "row {at}");
         }
     }
 

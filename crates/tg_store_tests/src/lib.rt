@@ -1,23 +1,12 @@
-//! The tests of `tg_hall` and `tg_store`, which stand apart from them so that these are proved once.
+//! The tests of `tg_store`, which stand apart from it so that it is proved once. Those where memory is refused
+//! once stand in `tg_store_memory_tests`.
 #![tactic(auto)]
 
-#[cfg(test)]
-mod answer_tests;
 #[cfg(test)]
 mod desks;
 #[cfg(test)]
 mod famine_tests;
 #[cfg(test)]
-mod memory_tests;
+mod meeting_tests;
 #[cfg(test)]
-mod scripts;
-#[cfg(test)]
-mod store_famine_tests;
-#[cfg(test)]
-mod store_memory_tests;
-#[cfg(test)]
-mod store_tests;
-#[cfg(test)]
-mod test_helpers;
-#[cfg(test)]
-mod tests;
+mod row_tests;

@@ -1,23 +1,16 @@
 // Each test passes whichever one request for memory is refused, which `make refusals` tries. Where a
 // call was refused memory, its second try has it.
-use crate::scripts::Deed::{Begin, Commit, Create, Learn, PutOnce, Share};
-use crate::scripts::Word::{Did, Done, Learned, No, Put, Yes};
-use crate::scripts::{Row, act_of, event_of, name, reply_of};
-use crate::test_helpers::has;
+ghost use Rattle.tg_hall.specs.Acts.{IsStageableAct};
+ghost use Rattle.tg_hall.specs.Worlds.{IsStageable};
+
 use std::alloc::{AllocError, Global};
 use std::process::Abort;
-use std::test::Fail;
-use tg_graph::{Graph, Right};
-use tg_store::{Hall, HallFault, HallReply, StoreFault};
-
-// The vertex a.
-fn one(rt: &impl Abort, alloc: Global) -> Graph {
-    let mut graph = Graph::new(alloc);
-    if graph.add_vertex(name(rt, b'a')).is_err() {
-        assert!(rt; graph.add_vertex(name(rt, b'a')).is_ok());
-    }
-    graph
-}
+use tg_graph::{Act, Graph, Right};
+use tg_graph_trials::graph;
+use tg_hall::{Event, Hall, HallFault, HallReply, StoreFault};
+use tg_hall_trials::Deed::{Begin, Commit, Create, Learn, PutOnce, Share};
+use tg_hall_trials::Word::{Did, Done, Learned, No, Put, Yes};
+use tg_hall_trials::{Deed, Row, act_of, event_of, holds, is_reply};
 
 // Two seats and four cells over the graph, where memory was not refused.
 fn made(rt: &impl Abort, alloc: Global, graph: &Graph) -> Option<Hall> {
@@ -32,11 +25,26 @@ fn made(rt: &impl Abort, alloc: Global, graph: &Graph) -> Option<Hall> {
 
 // Two seats and four cells over the vertex a.
 fn opened(rt: &impl Abort, alloc: Global) -> Hall {
-    let graph = one(rt, alloc);
-    match made(rt, alloc, &graph) {
+    let opening = match graph(alloc, "a", "") {
+        Some(opening) => opening,
+        None => graph(alloc, "a", "").expect(rt, "a graph"),
+    };
+    match made(rt, alloc, &opening) {
         Some(hall) => hall,
-        None => made(rt, alloc, &graph).expect(rt, "a hall"),
+        None => made(rt, alloc, &opening).expect(rt, "a hall"),
     }
+}
+
+fn event(rt: &impl Abort, seat: u32, deed: Deed) -> Event
+    ensures { IsStageable result }
+{
+    event_of(seat, deed).expect(rt, "an event")
+}
+
+fn act(rt: &impl Abort, deed: Deed) -> Act
+    ensures { IsStageableAct result }
+{
+    act_of(deed).expect(rt, "an act")
 }
 
 fn is_refused_memory(reply: HallReply) -> bool {
@@ -49,14 +57,14 @@ fn happened(rt: &impl Abort, hall: &mut Hall, row: &Row) {
     let len = hall.len();
     let first = hall.taken(1);
     let second = hall.taken(2);
-    let mut answer = hall.step(event_of(rt, seat, deed));
+    let mut answer = hall.step(event(rt, seat, deed));
     if is_refused_memory(answer) {
         assert!(rt; hall.len() == len);
         assert!(rt; hall.taken(1) == first);
         assert!(rt; hall.taken(2) == second);
-        answer = hall.step(event_of(rt, seat, deed));
+        answer = hall.step(event(rt, seat, deed));
     }
-    assert!(rt; answer == reply_of(rt, word));
+    assert!(rt; is_reply(word, answer));
 }
 
 fn happen(rt: &impl Abort, hall: &mut Hall, rows: &[Row]) {
@@ -69,15 +77,15 @@ fn happen(rt: &impl Abort, hall: &mut Hall, rows: &[Row]) {
 fn told(rt: &impl Abort, hall: &mut Hall, row: &Row) {
     let (seat, deed, word) = *row;
     let len = hall.len();
-    let mut answer = hall.act(seat, &act_of(rt, deed));
+    let mut answer = hall.act(seat, &act(rt, deed));
     if is_refused_memory(answer) {
         assert!(rt; hall.len() == len);
-        answer = hall.act(seat, &act_of(rt, deed));
+        answer = hall.act(seat, &act(rt, deed));
     }
-    assert!(rt; answer == reply_of(rt, word));
+    assert!(rt; is_reply(word, answer));
 }
 
-fn act(rt: &impl Abort, hall: &mut Hall, rows: &[Row]) {
+fn tell(rt: &impl Abort, hall: &mut Hall, rows: &[Row]) {
     for row in rows {
         told(rt, hall, row);
     }
@@ -95,7 +103,7 @@ fn ends(rt: &impl Abort, hall: &Hall, len: usize, x: u8, y: u8) {
     match last_of(hall) {
         Ok(last) => {
             assert!(rt; last.len() == len);
-            assert!(rt; has(rt, &last, x, Right::R, y));
+            assert!(rt; holds(&last, x, Right::R, y));
         }
         Err(AllocError) => panic!(rt; "no graph"),
     }
@@ -111,7 +119,7 @@ fn refused_acts(rt: HostRuntime) {
         (2, Begin, Done),
         (2, Share(Right::R, *b"ab"), Yes),
     ];
-    act(&rt, &mut hall, &rows);
+    tell(&rt, &mut hall, &rows);
     ends(&rt, &hall, 2, b'a', b'b');
 }
 
@@ -181,7 +189,7 @@ fn refused_under_a_session(rt: HostRuntime) {
 
 // A run of a begin and a put. One that was refused memory for its replies has done nothing.
 fn run(rt: &impl Abort, hall: &mut Hall) -> Option<[HallReply; 2]> {
-    match hall.run(&[event_of(rt, 1, Begin), event_of(rt, 1, PutOnce)]) {
+    match hall.run(&[event(rt, 1, Begin), event(rt, 1, PutOnce)]) {
         Ok(replies) => match replies.as_slice() {
             [begun, put] => Some([*begun, *put]),
             _ => panic!(rt; "not two replies"),
@@ -243,11 +251,11 @@ fn events_beside_a_session_that_knows(rt: HostRuntime) {
     for row in &rows {
         let (seat, deed, word) = *row;
         let knew = hall.knows_any();
-        let reply = hall.step(event_of(&rt, seat, deed));
+        let reply = hall.step(event(&rt, seat, deed));
         if is_refused_beside(&rt, knew, reply) {
             happened(&rt, &mut hall, row);
         } else {
-            assert!(rt; reply == reply_of(&rt, word));
+            assert!(rt; is_reply(word, reply));
         }
     }
 }
@@ -257,7 +265,7 @@ fn an_act_beside_a_session_that_knows(rt: HostRuntime) {
     let mut hall = opened(&rt, rt.alloc());
     know(&rt, &mut hall);
     let knew = hall.knows_any();
-    let reply = hall.act(2, &act_of(&rt, Begin));
+    let reply = hall.act(2, &act(&rt, Begin));
     assert!(rt; !is_refused_beside(&rt, knew, reply));
     assert!(rt; hall.taken(2) == Some(1));
 }
@@ -268,7 +276,7 @@ fn a_run_beside_a_session_that_knows(rt: HostRuntime) {
     know(&rt, &mut hall);
     let knew = hall.knows_any();
     let ran = hall
-        .run(&[event_of(&rt, 2, Begin), event_of(&rt, 2, Learn)])
+        .run(&[event(&rt, 2, Begin), event(&rt, 2, Learn)])
         .is_ok();
     assert!(rt; ran || !knew);
 }
@@ -278,7 +286,7 @@ fn a_run_beside_a_session_that_knows(rt: HostRuntime) {
 fn a_refused_put_after_questions(rt: HostRuntime) {
     let mut hall = opened(&rt, rt.alloc());
     know(&rt, &mut hall);
-    let reply = hall.step(event_of(&rt, 1, PutOnce));
+    let reply = hall.step(event(&rt, 1, PutOnce));
     assert!(rt; !hall.knows_any());
     if is_refused_memory(reply) {
         happened(&rt, &mut hall, &(1, PutOnce, Put(1)));

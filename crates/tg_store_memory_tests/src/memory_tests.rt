@@ -3,28 +3,36 @@
 ghost use Rattle.std.specs.Prelude.{◌≡◌, IfOk, length, take};
 ghost use Rattle.tg_store.specs.Running.{IsOf};
 
-use crate::desks::opened;
-use crate::scripts::{Deed, name, set, step_of};
 use std::alloc::{AllocError, Global};
 use std::process::Abort;
 use std::test::Fail;
-use tg_graph::{Graph, Refusal, Reply, Right};
+use tg_graph::{Graph, Reply, Right};
+use tg_graph_trials::graph;
+use tg_hall_trials::{Deed, Word, holds, is_reply, step_of};
 use tg_journal::Front;
 use tg_store::{
-    Answered, BeginFault, Begun, CommitFault, Committed, Record, Seat, Session, Store, StoreFault,
-    StoreMeetFault,
+    Answered, BeginFault, Begun, CommitFault, Committed, HallReply, Record, Seat, Session, Store,
+    StoreFault, StoreMeetFault,
 };
 
 // The vertices a, b, c and d. a has t over b, and b has r over c.
-fn four(rt: &impl Abort, alloc: Global) -> Option<Graph> {
-    let mut graph = Graph::new(alloc);
-    for letter in b"abcd" {
-        graph.add_vertex(name(rt, *letter)).ok()?;
-    }
-    let (a, b, c) = (name(rt, b'a'), name(rt, b'b'), name(rt, b'c'));
-    graph.add_edge(a, b, set(rt, b"t")).ok()?;
-    graph.add_edge(b, c, set(rt, b"r")).ok()?;
-    Some(graph)
+fn four(alloc: Global) -> Option<Graph> {
+    graph(alloc, "a b c d", "a b t, b c r")
+}
+
+// A store with two seats over the graph.
+fn started(alloc: Global, graph: &Graph, cells: usize) -> Result<(Store, Seat, Seat), StoreFault>
+    ensures one { IfOk result (λ r. IsOf r.0 r.1) }
+    ensures two { IfOk result (λ r. IsOf r.0 r.2) }
+{
+    let (store, mut seats) = match Store::start(alloc, graph, cells, 2) {
+        Ok(made) => made,
+        Err(fault) => return Err(fault),
+    };
+    let (Some(two), Some(one)) = (seats.pop(), seats.pop()) else {
+        return Err(StoreFault::Seats);
+    };
+    Ok((store, one, two))
 }
 
 // A store over the four vertices with two seats and so many cells.
@@ -32,13 +40,13 @@ fn opened_with(rt: &impl Abort, alloc: Global, cells: usize) -> (Store, Seat, Se
     ensures one { IsOf result.0 result.1 }
     ensures two { IsOf result.0 result.2 }
 {
-    let graph = match four(rt, alloc) {
+    let graph = match four(alloc) {
         Some(graph) => graph,
-        None => four(rt, alloc).expect(rt, "a graph"),
+        None => four(alloc).expect(rt, "a graph"),
     };
-    let first = opened(alloc, &graph, cells);
+    let first = started(alloc, &graph, cells);
     match first {
-        Err(StoreFault::Memory) => opened(alloc, &graph, cells).expect(rt, "a store"),
+        Err(StoreFault::Memory) => started(alloc, &graph, cells).expect(rt, "a store"),
         made => made.expect(rt, "a store"),
     }
 }
@@ -65,33 +73,25 @@ fn begun(rt: &impl Abort, store: &Store, seat: Seat) -> Session
     }
 }
 
-// Whether a is said to take r over c.
-fn takes(rt: &impl Abort, session: &mut Session) -> bool
+// Whether the session is told so of the step that the deed stages.
+fn is_told(session: &mut Session, deed: Deed, word: Word) -> bool
     ensures { session.new.seat ≡ session.old.seat }
 {
-    session.step(step_of(rt, Deed::Take(*b"abc", b"r"))) == Ok(Reply::Done)
+    let Some(step) = step_of(deed) else {
+        return false;
+    };
+    match session.step(step) {
+        Ok(reply) => is_reply(word, HallReply::Said(reply)),
+        Err(AllocError) => false,
+    }
 }
 
-// Whether d is said to create n.
-fn creates(rt: &impl Abort, session: &mut Session) -> bool
+// The session is told so, at the second try where memory was refused to the first.
+fn stage(rt: &impl Abort, session: &mut Session, deed: Deed, word: Word)
     ensures { session.new.seat ≡ session.old.seat }
 {
-    session.step(step_of(rt, Deed::Create(*b"dn", b"g"))) == Ok(Reply::Done)
-}
-
-// Whether d is said to create m.
-fn creates_another(rt: &impl Abort, session: &mut Session) -> bool
-    ensures { session.new.seat ≡ session.old.seat }
-{
-    session.step(step_of(rt, Deed::Create(*b"dm", b"g"))) == Ok(Reply::Done)
-}
-
-// Whether z is said to be no vertex.
-fn asks(rt: &impl Abort, session: &mut Session) -> bool
-    ensures { session.new.seat ≡ session.old.seat }
-{
-    let unknown = Reply::Refused(Refusal::Unknown(name(rt, b'z')));
-    session.step(step_of(rt, Deed::Holds(Right::R, *b"az"))) == Ok(unknown)
+    let staged = is_told(session, deed, word) || is_told(session, deed, word);
+    assert!(rt; staged);
 }
 
 // A session that was refused memory goes on, and its record has the place that it would have had.
@@ -116,8 +116,12 @@ fn committed(rt: &impl Abort, store: &Store, session: Session, place: usize) -> 
 fn refused_commits(rt: HostRuntime) {
     let (store, one, _two) = opened_on_four(&rt, rt.alloc());
     let mut session = begun(&rt, &store, one);
-    let staged = asks(&rt, &mut session) || asks(&rt, &mut session);
-    assert!(rt; staged);
+    stage(
+        &rt,
+        &mut session,
+        Deed::Holds(Right::R, *b"az"),
+        Word::Unknown(b'z'),
+    );
     let one = committed(&rt, &store, session, 0);
     let session = begun(&rt, &store, one);
     assert!(rt; committed(&rt, &store, session, 1).taken() == 2);
@@ -129,8 +133,7 @@ fn put_first(rt: &impl Abort, store: &Store, seat: Seat) -> Seat
     ensures { IsOf store.now result }
 {
     let mut session = begun(rt, store, seat);
-    let staged = creates(rt, &mut session) || creates(rt, &mut session);
-    assert!(rt; staged);
+    stage(rt, &mut session, Deed::Create(*b"dn", b"g"), Word::Did);
     committed(rt, store, session, 0)
 }
 
@@ -140,15 +143,17 @@ fn behind(rt: &impl Abort, store: &Store, one: Seat, two: Seat) -> Session
     ensures { IsOf store.now result.seat }
 {
     let mut session = begun(rt, store, one);
-    let staged = takes(rt, &mut session) || takes(rt, &mut session);
-    assert!(rt; staged);
+    stage(rt, &mut session, Deed::Take(*b"abc", b"r"), Word::Did);
     assert!(rt; put_first(rt, store, two).taken() == 1);
     session
 }
 
 // Whether a took r over c.
-fn is_done_take(rt: &impl Abort, answered: &Answered) -> bool {
-    answered.reply == Reply::Done && answered.step == step_of(rt, Deed::Take(*b"abc", b"r"))
+fn is_done_take(answered: &Answered) -> bool {
+    match step_of(Deed::Take(*b"abc", b"r")) {
+        Some(step) => answered.reply == Reply::Done && answered.step == step,
+        None => false,
+    }
 }
 
 // Its only step was done, and it is the first of its seat.
@@ -156,7 +161,7 @@ fn is_first_take(rt: &impl Abort, record: &Record) {
     assert!(rt; record.seat == 1);
     assert!(rt; record.number == 0);
     match record.steps.as_slice() {
-        [only] => assert!(rt; is_done_take(rt, only)),
+        [only] => assert!(rt; is_done_take(only)),
         _ => panic!(rt; "not one step"),
     }
 }
@@ -170,10 +175,7 @@ fn refused_commit_behind_another(rt: HostRuntime) {
         panic!(rt; "no record");
     };
     is_first_take(&rt, record);
-    assert!(rt;
-        one.graph()
-            .holds(name(&rt, b'a'), Right::R, name(&rt, b'c'))
-    );
+    assert!(rt; holds(one.graph(), b'a', Right::R, b'c'));
 }
 
 // Where every cell is taken, a commit is told so, whether or not there is room for the vertex that it creates.
@@ -182,8 +184,7 @@ fn a_full_journal_before_want_of_room(rt: HostRuntime) {
     let (store, one, two) = opened_with(&rt, rt.alloc(), 1);
     assert!(rt; put_first(&rt, &store, two).taken() == 1);
     let mut session = begun(&rt, &store, one);
-    let staged = creates_another(&rt, &mut session) || creates_another(&rt, &mut session);
-    assert!(rt; staged);
+    stage(&rt, &mut session, Deed::Create(*b"dm", b"g"), Word::Did);
     let full = matches!(
         store.commit(session),
         Committed::Refused(_, CommitFault::JournalFull)
@@ -192,17 +193,17 @@ fn a_full_journal_before_want_of_room(rt: HostRuntime) {
 }
 
 // How many vertices there are, whether d has g over n, and whether a has r over c.
-fn shown(rt: &impl Abort, graph: &Graph) -> (usize, bool, bool) {
-    let created = graph.holds(name(rt, b'd'), Right::G, name(rt, b'n'));
-    let taken = graph.holds(name(rt, b'a'), Right::R, name(rt, b'c'));
+fn shown(graph: &Graph) -> (usize, bool, bool) {
+    let created = holds(graph, b'd', Right::G, b'n');
+    let taken = holds(graph, b'a', Right::R, b'c');
     (graph.len(), created, taken)
 }
 
 // Whether the seat's graph is the replay of no record, or of the creation of n alone.
-fn is_replay(rt: &impl Abort, seat: &Seat) -> bool {
+fn is_replay(seat: &Seat) -> bool {
     match seat.taken() {
-        0 => shown(rt, seat.graph()) == (4, false, false),
-        1 => shown(rt, seat.graph()) == (5, true, false),
+        0 => shown(seat.graph()) == (4, false, false),
+        1 => shown(seat.graph()) == (5, true, false),
         _ => false,
     }
 }
@@ -210,7 +211,7 @@ fn is_replay(rt: &impl Abort, seat: &Seat) -> bool {
 // The seat's graph is the replay of the creation of n.
 fn rests_on_the_creation(rt: &impl Abort, seat: &Seat) {
     assert!(rt; seat.taken() == 1);
-    assert!(rt; is_replay(rt, seat));
+    assert!(rt; is_replay(seat));
 }
 
 // A session that was refused memory is given up, and its seat begins again.
@@ -221,8 +222,8 @@ fn abort_after_a_refusal(rt: HostRuntime) {
     match store.commit(session) {
         Committed::Again(session) => {
             let seat = session.abort();
-            assert!(rt; is_replay(&rt, &seat));
-            assert!(rt; is_replay(&rt, &begun(&rt, &store, seat).abort()));
+            assert!(rt; is_replay(&seat));
+            assert!(rt; is_replay(&begun(&rt, &store, seat).abort()));
         }
         Committed::Done(_, receipt) => assert!(rt; receipt.place == 1),
         Committed::Refused(_, _) => panic!(rt; "refused"),
@@ -237,7 +238,7 @@ fn refused_begin(rt: HostRuntime) {
     let session = match store.begin(one) {
         Begun::Session(session) => session,
         Begun::Refused(seat, _) => {
-            assert!(rt; is_replay(&rt, &seat));
+            assert!(rt; is_replay(&seat));
             begun(&rt, &store, seat)
         }
     };
@@ -263,7 +264,7 @@ fn refused_meeting(rt: HostRuntime) -> Result<(), Fail> {
     assert!(rt; front.len() == 1);
     if let Err(fault) = store.meet(&mut one, &front) {
         assert!(rt; fault == StoreMeetFault::Memory);
-        assert!(rt; is_replay(&rt, &one));
+        assert!(rt; is_replay(&one));
         assert!(rt; store.meet(&mut one, &front).is_ok());
     }
     rests_on_the_creation(&rt, &one);
@@ -274,7 +275,8 @@ fn refused_meeting(rt: HostRuntime) -> Result<(), Fail> {
 fn asked(rt: &impl Abort, session: &mut Session) -> Result<Reply, AllocError>
     ensures { session.new.seat ≡ session.old.seat }
 {
-    session.step(step_of(rt, Deed::Share(Right::W, *b"ac")))
+    let step = step_of(Deed::Share(Right::W, *b"ac")).expect(rt, "a step");
+    session.step(step)
 }
 
 // Asks twice.
@@ -333,15 +335,22 @@ fn questions_of_a_session_that_knows(rt: HostRuntime) {
     answered_often(&rt, &mut session);
 }
 
+// Whether d is said to create n.
+fn creates(session: &mut Session) -> bool
+    ensures { session.new.seat ≡ session.old.seat }
+{
+    is_told(session, Deed::Create(*b"dn", b"g"), Word::Did)
+}
+
 // A rule gives up what is known, also where it is refused.
 #[test]
 fn questions_after_a_rule(rt: HostRuntime) {
     let (store, one, _two) = opened_on_four(&rt, rt.alloc());
     let mut session = begun(&rt, &store, one);
     ask_until_it_knows(&rt, &mut session);
-    let staged = creates(&rt, &mut session);
+    let staged = creates(&mut session);
     assert!(rt; !session.knows_any());
-    assert!(rt; staged || creates(&rt, &mut session));
+    assert!(rt; staged || creates(&mut session));
     ask_until_it_knows(&rt, &mut session);
     answered_often(&rt, &mut session);
 }
