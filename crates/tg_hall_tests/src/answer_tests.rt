@@ -101,6 +101,7 @@ fn what_a_seat_has_taken(rt: HostRuntime) -> Result<(), Fail> {
     rests(&rt, &hall, 3, 1, 4, &[(*b"ac", b"r")]);
     acts(&rt, &mut hall, &[(3, Begin, Done)]);
     assert!(rt; hall.taken(3) == Some(2));
+    events(&rt, &mut hall, &[(3, Abort, Done), (3, Learn, Nothing)]);
     Ok(())
 }
 

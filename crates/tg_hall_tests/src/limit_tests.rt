@@ -1,14 +1,13 @@
-// Where there is no room: no hall, no vertex more, no place beside a record.
-use crate::test_halls::{acts, events};
-use std::alloc::{AllocError, Global};
+// Where there is no room: no hall, and no place beside a record.
+use crate::test_halls::events;
+use std::alloc::Global;
 use std::process;
 use std::test::Fail;
-use tg_graph::{Graph, MOST_VERTICES};
+use tg_graph::Graph;
 use tg_graph_trials::numbered;
 use tg_hall::{Hall, StoreFault};
-use tg_hall_trials::Deed::{Abort, Begin, Commit, Create, Learn, PutOnce};
-use tg_hall_trials::Word::{Crowded, Did, Done, Full, Nothing, Put};
-use tg_hall_trials::has_vertex;
+use tg_hall_trials::Deed::{Begin, Create, Learn, PutOnce};
+use tg_hall_trials::Word::{Crowded, Did, Done, Put};
 
 // There is no such hall over the graph, for this fault.
 fn refused(
@@ -34,45 +33,11 @@ fn limits(rt: HostRuntime) {
     refused(&rt, alloc, &g, 1, 1, StoreFault::TooManyVertices);
 }
 
-// A hall of two seats and eight cells over 4,095 vertices.
-fn nearly_full(alloc: Global) -> Result<Hall, Fail> {
-    let graph = numbered(alloc, 4095).ok_or(AllocError)?;
-    Ok(Hall::new(alloc, &graph, 8, 2)?)
-}
-
-// Of p and q the graph has p, and no room for another.
-fn has_p(rt: &impl process::Abort, graph: &Graph) {
-    assert!(rt; graph.len() == MOST_VERTICES);
-    assert!(rt; has_vertex(graph, b'p'));
-    assert!(rt; !has_vertex(graph, b'q'));
-}
-
-// There is room for one vertex more, which the first seat's session takes.
-#[test]
-fn full_graphs(rt: HostRuntime) -> Result<(), Fail> {
-    let mut hall = nearly_full(rt.alloc())?;
-    let rows = [
-        (1, Begin, Done),
-        (2, Begin, Done),
-        (1, Create(*b"0p", b"-"), Did),
-        (2, Create(*b"1q", b"-"), Did),
-        (2, Create(*b"1s", b"-"), Full),
-        (1, Commit, Put(0)),
-        (2, Commit, Crowded(0)),
-    ];
-    acts(&rt, &mut hall, &rows);
-    let last = hall.last()?;
-    has_p(&rt, &last);
-    let rows = [(2, Begin, Done), (2, Abort, Done)];
-    acts(&rt, &mut hall, &rows);
-    events(&rt, &mut hall, &[(2, Learn, Nothing)]);
-    Ok(())
-}
-
-// A record that crowds a session ends it when it is learnt, too.
+// There is room for one vertex more. A record that crowds a session ends it when it is learnt.
 #[test]
 fn crowded_by_a_record_that_is_learnt(rt: HostRuntime) -> Result<(), Fail> {
-    let mut hall = nearly_full(rt.alloc())?;
+    let g = numbered(rt.alloc(), 4095).expect(&rt, "a graph");
+    let mut hall = Hall::new(rt.alloc(), &g, 8, 2)?;
     let rows = [
         (1, Begin, Done),
         (2, Begin, Done),

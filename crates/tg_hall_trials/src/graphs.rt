@@ -5,14 +5,6 @@ use tg_graph::{Graph, Right, Rights};
 /// A source and a target, and the rights of the edge between them.
 pub type Label = ([u8; 2], &'static [u8]);
 
-/// Whether the graph has the vertex.
-pub fn has_vertex(graph: &Graph, letter: u8) -> bool {
-    match name(letter) {
-        Some(vertex) => graph.knows(vertex),
-        None => false,
-    }
-}
-
 /// Whether x has the right over y.
 pub fn holds(graph: &Graph, x: u8, right: Right, y: u8) -> bool {
     let (Some(x), Some(y)) = (name(x), name(y)) else {

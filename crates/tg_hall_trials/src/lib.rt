@@ -8,5 +8,5 @@ mod letters;
 mod words;
 
 pub use deeds::{Deed, act_of, event_of, step_of};
-pub use graphs::{Label, has_vertex, holds, shows};
+pub use graphs::{Label, holds, shows};
 pub use words::{Row, Word, is_reply};

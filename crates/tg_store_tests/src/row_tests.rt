@@ -3,10 +3,10 @@ use crate::desks::{Desk, opened};
 use std::alloc::Global;
 use std::process;
 use tg_graph::{Graph, MOST_VERTICES, Right};
-use tg_graph_trials::{graph, numbered};
+use tg_graph_trials::{graph, name, numbered};
 use tg_hall_trials::Deed::{Abort, Begin, Commit, Create, Holds, Share, Take};
 use tg_hall_trials::Word::{Changed, Crowded, Did, Done, Full, No, Put, Unknown, Yes};
-use tg_hall_trials::{Label, Row, has_vertex, shows};
+use tg_hall_trials::{Label, Row, shows};
 use tg_store::{Store, StoreFault};
 
 // The rows are played at a store of two seats and eight cells over the graph.
@@ -111,8 +111,8 @@ fn questions_after_a_commit(rt: HostRuntime) {
 // Of p and q the graph has p, and no room for another.
 fn has_p(rt: &impl process::Abort, graph: &Graph) {
     assert!(rt; graph.len() == MOST_VERTICES);
-    assert!(rt; has_vertex(graph, b'p'));
-    assert!(rt; !has_vertex(graph, b'q'));
+    assert!(rt; graph.knows(name("p").expect(rt, "a name")));
+    assert!(rt; !graph.knows(name("q").expect(rt, "a name")));
 }
 
 // There is room for one vertex more, which the first seat's session takes. The second seat, which was crowded,
