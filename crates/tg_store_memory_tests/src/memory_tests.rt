@@ -14,25 +14,11 @@ use tg_store::{
     Answered, BeginFault, Begun, CommitFault, Committed, HallReply, Record, Seat, Session, Store,
     StoreFault, StoreMeetFault,
 };
+use tg_store_trials::opened;
 
 // The vertices a, b, c and d. a has t over b, and b has r over c.
 fn four(alloc: Global) -> Option<Graph> {
     graph(alloc, "a b c d", "a b t, b c r")
-}
-
-// A store with two seats over the graph.
-fn started(alloc: Global, graph: &Graph, cells: usize) -> Result<(Store, Seat, Seat), StoreFault>
-    ensures one { IfOk result (λ r. IsOf r.0 r.1) }
-    ensures two { IfOk result (λ r. IsOf r.0 r.2) }
-{
-    let (store, mut seats) = match Store::start(alloc, graph, cells, 2) {
-        Ok(made) => made,
-        Err(fault) => return Err(fault),
-    };
-    let (Some(two), Some(one)) = (seats.pop(), seats.pop()) else {
-        return Err(StoreFault::Seats);
-    };
-    Ok((store, one, two))
 }
 
 // A store over the four vertices with two seats and so many cells.
@@ -44,9 +30,9 @@ fn opened_with(rt: &impl Abort, alloc: Global, cells: usize) -> (Store, Seat, Se
         Some(graph) => graph,
         None => four(alloc).expect(rt, "a graph"),
     };
-    let first = started(alloc, &graph, cells);
+    let first = opened(alloc, &graph, cells);
     match first {
-        Err(StoreFault::Memory) => started(alloc, &graph, cells).expect(rt, "a store"),
+        Err(StoreFault::Memory) => opened(alloc, &graph, cells).expect(rt, "a store"),
         made => made.expect(rt, "a store"),
     }
 }

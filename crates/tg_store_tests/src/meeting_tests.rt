@@ -2,7 +2,7 @@ ghost use Rattle.std.specs.Prelude.{IfOk};
 ghost use Rattle.tg_hall.specs.StepWords.{IsNamedStep};
 ghost use Rattle.tg_store.specs.Running.{IsOf};
 
-use crate::desks::{Desk, agreeing, met, opened};
+use crate::desks::{Desk, met};
 use std::alloc::{AllocError, Global};
 use std::test::Fail;
 use std::{process, thread};
@@ -12,6 +12,7 @@ use tg_hall_trials::Deed::{Abort, Begin, Commit, Holds, Share, Take};
 use tg_hall_trials::Word::{Did, Done, No, Put, Yes};
 use tg_hall_trials::{shows, step_of};
 use tg_store::{Begun, Committed, Seat, Session, Store};
+use tg_store_trials::{agreeing, opened};
 
 // A store of four cells, over the vertices a, b and c, where the first seat has put that a takes r
 // over c from b.
@@ -48,7 +49,6 @@ fn seats_that_meet(rt: HostRuntime) -> Result<(), Fail> {
     assert!(rt; !desk.knows(&rt, 2, 1));
     assert!(rt; desk.agreed(&rt));
     assert!(rt; !desk.agreed_alone(&rt));
-    assert!(rt; !desk.agreed_of_none());
     assert!(rt; shows(desk.seat(&rt, 2).graph(), 3, &[(*b"ac", b"r")]));
     let rows = [
         (2, Begin, Done),

@@ -1,5 +1,5 @@
 // What seats do to one another at a store, one after another.
-use crate::desks::{Desk, opened};
+use crate::desks::Desk;
 use std::alloc::Global;
 use std::process;
 use tg_graph::{Graph, MOST_VERTICES, Right};
@@ -8,6 +8,7 @@ use tg_hall_trials::Deed::{Abort, Begin, Commit, Create, Holds, Share, Take};
 use tg_hall_trials::Word::{Changed, Crowded, Did, Done, Full, No, Put, Unknown, Yes};
 use tg_hall_trials::{Label, Row, shows};
 use tg_store::{Store, StoreFault};
+use tg_store_trials::opened;
 
 // The rows are played at a store of two seats and eight cells over the graph.
 fn in_store(rt: &impl process::Abort, alloc: Global, graph: &Graph, rows: &[Row]) -> Desk {

@@ -3,7 +3,6 @@
 // and else everything is answered.
 ghost use Rattle.tg_store.specs.Running.{IsOf};
 
-use crate::desks::{lonely, opened};
 use std::alloc::AllocError;
 use std::process::Abort;
 use std::test::Fail;
@@ -11,6 +10,7 @@ use tg_graph::{Graph, Right};
 use tg_graph_trials::graph;
 use tg_hall_trials::holds;
 use tg_store::{Begun, Committed, Seat, Session, Store, StoreFault};
+use tg_store_trials::{lonely, opened};
 
 // A seat that has no record to take in opens a session.
 fn begun(rt: &impl Abort, store: &Store, seat: Seat) -> Session
