@@ -32,49 +32,17 @@ pub(crate) fn word<'a>(rt: &impl Abort, words: &mut SplitWhitespace<'a>) -> &'a 
     words.next().expect(rt, "one word more")
 }
 
-fn add_vertex(rt: &impl Abort, graph: &mut Graph, vertex: Name) {
-    assert!(rt; graph.add_vertex(vertex).is_ok());
-}
-
-// Adds the edge that a line says; an empty line says none.
-fn add_edge(rt: &impl Abort, graph: &mut Graph, line: &str) {
-    let mut words = line.split_whitespace();
-    let Some(source) = words.next() else {
-        return;
-    };
-    let (source, target) = (name(rt, source), name(rt, word(rt, &mut words)));
-    let rights = set(rt, word(rt, &mut words));
-    assert!(rt; graph.add_edge(source, target, rights).is_ok());
-}
-
-fn add_edges(rt: &impl Abort, graph: &mut Graph, edges: &str) {
-    for edge in edges.split(',') {
-        add_edge(rt, graph, edge);
-    }
-}
-
 /// The graph with these vertices, in this order, and these edges.
 pub(crate) fn graph(rt: &impl Abort, alloc: Global, vertices: &str, edges: &str) -> Graph {
-    let mut graph = Graph::new(alloc);
-    for vertex in vertices.split_whitespace() {
-        add_vertex(rt, &mut graph, name(rt, vertex));
-    }
-    add_edges(rt, &mut graph, edges);
-    graph
+    tg_graph_trials::graph(alloc, vertices, edges).expect(rt, "a graph")
 }
 
 /// The graph with so many vertices, _0, _1 and so on, and no edge.
 pub(crate) fn numbered(rt: &impl Abort, alloc: Global, count: u32) -> Graph {
-    let mut graph = Graph::new(alloc);
-    for number in 0..count {
-        add_vertex(rt, &mut graph, Name::helper(number));
-    }
-    graph
+    tg_graph_trials::numbered(alloc, count).expect(rt, "a graph")
 }
 
 /// The graph with as many vertices as there may be, _0 to _4095, and these edges.
 pub(crate) fn most_vertices(rt: &impl Abort, alloc: Global, edges: &str) -> Graph {
-    let mut graph = numbered(rt, alloc, 4096);
-    add_edges(rt, &mut graph, edges);
-    graph
+    tg_graph_trials::most_vertices(alloc, edges).expect(rt, "a graph")
 }

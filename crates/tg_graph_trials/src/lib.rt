@@ -54,3 +54,12 @@ pub fn numbered(alloc: Global, count: u32) -> Option<Graph> {
     }
     Some(graph)
 }
+
+/// The graph with as many vertices as there may be, `_0` to `_4095`, and these edges.
+///
+/// `None` where a word is none, an edge can't be added, or memory was refused.
+pub fn most_vertices(alloc: Global, edges: &str) -> Option<Graph> {
+    let mut graph = numbered(alloc, 4096)?;
+    add_edges(&mut graph, edges)?;
+    Some(graph)
+}

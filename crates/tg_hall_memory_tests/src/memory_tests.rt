@@ -1,5 +1,8 @@
 // Each test passes whichever one request for memory is refused, which `make refusals` tries. Where a
 // call was refused memory, its second try has it.
+ghost use Rattle.tg_graph.specs.StepWords.{IsStageableAct};
+ghost use Rattle.tg_hall.specs.Worlds.{IsStageable};
+
 use std::alloc::{AllocError, Global};
 use std::process::Abort;
 use tg_graph::{Act, Graph, Right};
@@ -7,7 +10,7 @@ use tg_graph_trials::graph;
 use tg_hall::{Event, Hall, HallFault, HallReply, StoreFault};
 use tg_hall_trials::Deed::{Begin, Commit, Create, Learn, PutOnce, Share};
 use tg_hall_trials::Word::{Did, Done, Learned, No, Put, Yes};
-use tg_hall_trials::{Row, act_reply, event_reply, holds, reply_of};
+use tg_hall_trials::{Deed, Row, act_of, event_of, holds, is_reply};
 
 // Two seats and four cells over the graph, where memory was not refused.
 fn made(rt: &impl Abort, alloc: Global, graph: &Graph) -> Option<Hall> {
@@ -32,6 +35,18 @@ fn opened(rt: &impl Abort, alloc: Global) -> Hall {
     }
 }
 
+fn event(rt: &impl Abort, seat: u32, deed: Deed) -> Event
+    ensures { IsStageable result }
+{
+    event_of(seat, deed).expect(rt, "an event")
+}
+
+fn act(rt: &impl Abort, deed: Deed) -> Act
+    ensures { IsStageableAct result }
+{
+    act_of(deed).expect(rt, "an act")
+}
+
 fn is_refused_memory(reply: HallReply) -> bool {
     reply == HallReply::Refused(HallFault::Memory)
 }
@@ -42,14 +57,14 @@ fn happened(rt: &impl Abort, hall: &mut Hall, row: &Row) {
     let len = hall.len();
     let first = hall.taken(1);
     let second = hall.taken(2);
-    let mut answer = event_reply(hall, seat, deed).expect(rt, "an event");
+    let mut answer = hall.step(event(rt, seat, deed));
     if is_refused_memory(answer) {
         assert!(rt; hall.len() == len);
         assert!(rt; hall.taken(1) == first);
         assert!(rt; hall.taken(2) == second);
-        answer = event_reply(hall, seat, deed).expect(rt, "an event");
+        answer = hall.step(event(rt, seat, deed));
     }
-    assert!(rt; reply_of(word) == Some(answer));
+    assert!(rt; is_reply(word, answer));
 }
 
 fn happen(rt: &impl Abort, hall: &mut Hall, rows: &[Row]) {
@@ -62,15 +77,15 @@ fn happen(rt: &impl Abort, hall: &mut Hall, rows: &[Row]) {
 fn told(rt: &impl Abort, hall: &mut Hall, row: &Row) {
     let (seat, deed, word) = *row;
     let len = hall.len();
-    let mut answer = act_reply(hall, seat, deed).expect(rt, "an act");
+    let mut answer = hall.act(seat, &act(rt, deed));
     if is_refused_memory(answer) {
         assert!(rt; hall.len() == len);
-        answer = act_reply(hall, seat, deed).expect(rt, "an act");
+        answer = hall.act(seat, &act(rt, deed));
     }
-    assert!(rt; reply_of(word) == Some(answer));
+    assert!(rt; is_reply(word, answer));
 }
 
-fn act(rt: &impl Abort, hall: &mut Hall, rows: &[Row]) {
+fn tell(rt: &impl Abort, hall: &mut Hall, rows: &[Row]) {
     for row in rows {
         told(rt, hall, row);
     }
@@ -104,7 +119,7 @@ fn refused_acts(rt: HostRuntime) {
         (2, Begin, Done),
         (2, Share(Right::R, *b"ab"), Yes),
     ];
-    act(&rt, &mut hall, &rows);
+    tell(&rt, &mut hall, &rows);
     ends(&rt, &hall, 2, b'a', b'b');
 }
 
@@ -174,7 +189,7 @@ fn refused_under_a_session(rt: HostRuntime) {
 
 // A run of a begin and a put. One that was refused memory for its replies has done nothing.
 fn run(rt: &impl Abort, hall: &mut Hall) -> Option<[HallReply; 2]> {
-    match hall.run(&[Event::Begin(1), Event::Put(1)]) {
+    match hall.run(&[event(rt, 1, Begin), event(rt, 1, PutOnce)]) {
         Ok(replies) => match replies.as_slice() {
             [begun, put] => Some([*begun, *put]),
             _ => panic!(rt; "not two replies"),
@@ -236,11 +251,11 @@ fn events_beside_a_session_that_knows(rt: HostRuntime) {
     for row in &rows {
         let (seat, deed, word) = *row;
         let knew = hall.knows_any();
-        let reply = event_reply(&mut hall, seat, deed).expect(&rt, "an event");
+        let reply = hall.step(event(&rt, seat, deed));
         if is_refused_beside(&rt, knew, reply) {
             happened(&rt, &mut hall, row);
         } else {
-            assert!(rt; reply_of(word) == Some(reply));
+            assert!(rt; is_reply(word, reply));
         }
     }
 }
@@ -250,7 +265,7 @@ fn an_act_beside_a_session_that_knows(rt: HostRuntime) {
     let mut hall = opened(&rt, rt.alloc());
     know(&rt, &mut hall);
     let knew = hall.knows_any();
-    let reply = hall.act(2, &Act::Begin);
+    let reply = hall.act(2, &act(&rt, Begin));
     assert!(rt; !is_refused_beside(&rt, knew, reply));
     assert!(rt; hall.taken(2) == Some(1));
 }
@@ -260,7 +275,9 @@ fn a_run_beside_a_session_that_knows(rt: HostRuntime) {
     let mut hall = opened(&rt, rt.alloc());
     know(&rt, &mut hall);
     let knew = hall.knows_any();
-    let ran = hall.run(&[Event::Begin(2), Event::Learn(2)]).is_ok();
+    let ran = hall
+        .run(&[event(&rt, 2, Begin), event(&rt, 2, Learn)])
+        .is_ok();
     assert!(rt; ran || !knew);
 }
 
@@ -269,7 +286,7 @@ fn a_run_beside_a_session_that_knows(rt: HostRuntime) {
 fn a_refused_put_after_questions(rt: HostRuntime) {
     let mut hall = opened(&rt, rt.alloc());
     know(&rt, &mut hall);
-    let reply = hall.step(Event::Put(1));
+    let reply = hall.step(event(&rt, 1, PutOnce));
     assert!(rt; !hall.knows_any());
     if is_refused_memory(reply) {
         happened(&rt, &mut hall, &(1, PutOnce, Put(1)));

@@ -1,6 +1,7 @@
 // What a hall does without memory. Each test passes when every request for memory from some one on is
 // refused, which `make refusals` tries: it ends early or with an error where it can't be set up, and
 // else everything is answered.
+use crate::test_halls::{acts, event, events, hall_of_three};
 use std::alloc::{AllocError, Global};
 use std::process;
 use std::test::Fail;
@@ -10,14 +11,14 @@ use tg_hall_trials::Deed::{Abort, Begin, Learn, PutOnce, Remove, Share, Take};
 use tg_hall_trials::Word::{
     AlreadyOpen, Changed, Did, Done, JournalFull, No, NoSeat, NotOpen, Nothing, Put,
 };
-use tg_hall_trials::{Row, event_reply, hall_of_three, holds, reply_of, wrong_act, wrong_event};
+use tg_hall_trials::{Row, holds, is_reply};
 
 // Whether the row as an event is refused memory; else it is answered so.
 fn is_refused(rt: &impl process::Abort, hall: &mut Hall, row: &Row) -> bool {
     let (seat, deed, word) = *row;
-    let reply = event_reply(hall, seat, deed).expect(rt, "an event");
+    let reply = hall.step(event(rt, seat, deed));
     let refused = reply == HallReply::Refused(HallFault::Memory);
-    assert!(rt; refused || reply_of(word) == Some(reply));
+    assert!(rt; refused || is_reply(word, reply));
     refused
 }
 
@@ -33,45 +34,36 @@ fn is_set_up(rt: &impl process::Abort, hall: &mut Hall, rows: &[Row]) -> bool {
 
 #[test]
 fn bare_begin(rt: HostRuntime) -> Result<(), Fail> {
-    let mut hall = hall_of_three(rt.alloc(), 4, 2).ok_or("no hall")?;
-    assert_eq!(rt; wrong_event(&mut hall, &[(1, Begin, Done)]), None);
-    assert_eq!(rt; wrong_act(&mut hall, &[(2, Begin, Done)]), None);
-    assert_eq!(rt; wrong_event(&mut hall, &[(1, Abort, Done)]), None);
-    assert_eq!(rt; wrong_act(&mut hall, &[(2, Abort, Done)]), None);
+    let mut hall = hall_of_three(rt.alloc(), 4, 2)?;
+    events(&rt, &mut hall, &[(1, Begin, Done)]);
+    acts(&rt, &mut hall, &[(2, Begin, Done)]);
+    events(&rt, &mut hall, &[(1, Abort, Done)]);
+    acts(&rt, &mut hall, &[(2, Abort, Done)]);
     Ok(())
 }
 
 #[test]
 fn events_refused(rt: HostRuntime) -> Result<(), Fail> {
-    let mut hall = hall_of_three(rt.alloc(), 4, 1).ok_or("no hall")?;
-    assert_eq!(rt;
-        wrong_event(&mut hall, &[(2, Begin, NoSeat), (1, PutOnce, NotOpen)]),
-        None
-    );
-    assert_eq!(rt; wrong_act(&mut hall, &[(1, Begin, Done)]), None);
+    let mut hall = hall_of_three(rt.alloc(), 4, 1)?;
+    events(&rt, &mut hall, &[(2, Begin, NoSeat), (1, PutOnce, NotOpen)]);
+    acts(&rt, &mut hall, &[(1, Begin, Done)]);
     let rows = [(1, Begin, AlreadyOpen), (1, Learn, Nothing)];
-    assert_eq!(rt; wrong_event(&mut hall, &rows), None);
+    events(&rt, &mut hall, &rows);
     Ok(())
 }
 
 // Two sessions take the same right. The first is put, which changes the second.
 #[test]
 fn a_session_changed(rt: HostRuntime) -> Result<(), Fail> {
-    let mut hall = hall_of_three(rt.alloc(), 4, 2).ok_or("no hall")?;
-    assert_eq!(rt;
-        wrong_act(&mut hall, &[(1, Begin, Done), (2, Begin, Done)]),
-        None
-    );
+    let mut hall = hall_of_three(rt.alloc(), 4, 2)?;
+    acts(&rt, &mut hall, &[(1, Begin, Done), (2, Begin, Done)]);
     let rows = [
         (1, Take(*b"abc", b"r"), Did),
         (2, Take(*b"abc", b"r"), Did),
         (1, PutOnce, Put(0)),
     ];
     if is_set_up(&rt, &mut hall, &rows) {
-        assert_eq!(rt;
-            wrong_event(&mut hall, &[(2, PutOnce, Changed(0, b'a'))]),
-            None
-        );
+        events(&rt, &mut hall, &[(2, PutOnce, Changed(0, b'a'))]);
     }
     Ok(())
 }
@@ -98,13 +90,13 @@ fn read_graph(rt: &impl process::Abort, hall: &Hall) {
 
 #[test]
 fn halls_read(rt: HostRuntime) -> Result<(), Fail> {
-    let mut hall = hall_of_three(rt.alloc(), 1, 2).ok_or("no hall")?;
-    assert_eq!(rt; wrong_act(&mut hall, &[(1, Begin, Done)]), None);
+    let mut hall = hall_of_three(rt.alloc(), 1, 2)?;
+    acts(&rt, &mut hall, &[(1, Begin, Done)]);
     if is_set_up(&rt, &mut hall, &[(1, PutOnce, Put(0))]) {
         read(&rt, &hall);
         read_graph(&rt, &hall);
-        assert_eq!(rt; wrong_act(&mut hall, &[(1, Begin, Done)]), None);
-        assert_eq!(rt; wrong_event(&mut hall, &[(1, PutOnce, JournalFull)]), None);
+        acts(&rt, &mut hall, &[(1, Begin, Done)]);
+        events(&rt, &mut hall, &[(1, PutOnce, JournalFull)]);
     }
     Ok(())
 }
@@ -113,17 +105,14 @@ fn halls_read(rt: HostRuntime) -> Result<(), Fail> {
 // graph shares in between.
 #[test]
 fn a_rule_after_a_question(rt: HostRuntime) -> Result<(), Fail> {
-    let mut hall = hall_of_three(rt.alloc(), 4, 1).ok_or("no hall")?;
+    let mut hall = hall_of_three(rt.alloc(), 4, 1)?;
     let rows = [
         (1, Begin, Done),
         (1, Take(*b"abc", b"r"), Did),
         (1, Share(Right::W, *b"ac"), No),
     ];
     if is_set_up(&rt, &mut hall, &rows) {
-        assert_eq!(rt;
-            wrong_event(&mut hall, &[(1, Remove(*b"ac", b"r"), Did)]),
-            None
-        );
+        events(&rt, &mut hall, &[(1, Remove(*b"ac", b"r"), Did)]);
     }
     Ok(())
 }
@@ -171,8 +160,8 @@ fn asked(rt: &impl process::Abort, alloc: Global, hall: &mut Hall, knows: bool) 
 // A session that knows something is refused memory where one is that knows nothing.
 #[test]
 fn a_session_that_knows_after_one_that_does_not(rt: HostRuntime) -> Result<(), Fail> {
-    let mut knowing = hall_of_three(rt.alloc(), 4, 1).ok_or("no hall")?;
-    let mut other = hall_of_three(rt.alloc(), 4, 1).ok_or("no hall")?;
+    let mut knowing = hall_of_three(rt.alloc(), 4, 1)?;
+    let mut other = hall_of_three(rt.alloc(), 4, 1)?;
     let rows = [
         (1, Take(*b"abc", b"r"), Did),
         (1, Remove(*b"bc", b"r"), Did),
@@ -187,8 +176,8 @@ fn a_session_that_knows_after_one_that_does_not(rt: HostRuntime) -> Result<(), F
 // And nowhere else, at no question either.
 #[test]
 fn a_session_that_knows_before_one_that_does_not(rt: HostRuntime) -> Result<(), Fail> {
-    let mut knowing = hall_of_three(rt.alloc(), 4, 1).ok_or("no hall")?;
-    let mut other = hall_of_three(rt.alloc(), 4, 1).ok_or("no hall")?;
+    let mut knowing = hall_of_three(rt.alloc(), 4, 1)?;
+    let mut other = hall_of_three(rt.alloc(), 4, 1)?;
     let rows = [
         (1, Share(Right::E, *b"ab"), No),
         (1, Take(*b"abc", b"r"), Did),

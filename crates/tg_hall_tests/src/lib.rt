@@ -8,3 +8,5 @@ mod answer_tests;
 mod famine_tests;
 #[cfg(test)]
 mod limit_tests;
+#[cfg(test)]
+mod test_halls;

@@ -1,13 +1,13 @@
-// Where there is no room: no hall, no vertex more, no place beside a record.
+// Where there is no room: no hall, and no place beside a record.
+use crate::test_halls::events;
 use std::alloc::Global;
 use std::process;
 use std::test::Fail;
-use tg_graph::{Graph, MOST_VERTICES};
+use tg_graph::Graph;
 use tg_graph_trials::numbered;
 use tg_hall::{Hall, StoreFault};
-use tg_hall_trials::Deed::{Abort, Begin, Commit, Create, Learn, PutOnce};
-use tg_hall_trials::Word::{Crowded, Did, Done, Full, Nothing, Put};
-use tg_hall_trials::{letter_name, wrong_act, wrong_event};
+use tg_hall_trials::Deed::{Begin, Create, Learn, PutOnce};
+use tg_hall_trials::Word::{Crowded, Did, Done, Put};
 
 // There is no such hall over the graph, for this fault.
 fn refused(
@@ -22,58 +22,22 @@ fn refused(
 }
 
 #[test]
-fn limits(rt: HostRuntime) -> Result<(), Fail> {
+fn limits(rt: HostRuntime) {
     let alloc = rt.alloc();
     let g = Graph::new(alloc);
     refused(&rt, alloc, &g, 0, 1, StoreFault::Cells);
     refused(&rt, alloc, &g, 4097, 1, StoreFault::Cells);
     refused(&rt, alloc, &g, 1, 0, StoreFault::Seats);
     refused(&rt, alloc, &g, 1, 65, StoreFault::Seats);
-    let g = numbered(alloc, 4097).ok_or("no graph")?;
+    let g = numbered(alloc, 4097).expect(&rt, "a graph");
     refused(&rt, alloc, &g, 1, 1, StoreFault::TooManyVertices);
-    Ok(())
 }
 
-// A hall of two seats and eight cells over 4,095 vertices.
-fn nearly_full(alloc: Global) -> Option<Hall> {
-    let graph = numbered(alloc, 4095)?;
-    Hall::new(alloc, &graph, 8, 2).ok()
-}
-
-// Of p and q the graph has p, and no room for another.
-fn has_p(rt: &impl process::Abort, graph: &Graph) {
-    let p = letter_name(b'p').expect(rt, "a name");
-    let q = letter_name(b'q').expect(rt, "a name");
-    assert!(rt; graph.len() == MOST_VERTICES);
-    assert!(rt; graph.knows(p));
-    assert!(rt; !graph.knows(q));
-}
-
-// There is room for one vertex more, which the first seat's session takes.
-#[test]
-fn full_graphs(rt: HostRuntime) -> Result<(), Fail> {
-    let mut hall = nearly_full(rt.alloc()).ok_or("no hall")?;
-    let rows = [
-        (1, Begin, Done),
-        (2, Begin, Done),
-        (1, Create(*b"0p", b"-"), Did),
-        (2, Create(*b"1q", b"-"), Did),
-        (2, Create(*b"1s", b"-"), Full),
-        (1, Commit, Put(0)),
-        (2, Commit, Crowded(0)),
-    ];
-    assert_eq!(rt; wrong_act(&mut hall, &rows), None);
-    has_p(&rt, &hall.last()?);
-    let rows = [(2, Begin, Done), (2, Abort, Done)];
-    assert_eq!(rt; wrong_act(&mut hall, &rows), None);
-    assert_eq!(rt; wrong_event(&mut hall, &[(2, Learn, Nothing)]), None);
-    Ok(())
-}
-
-// A record that crowds a session ends it when it is learnt, too.
+// There is room for one vertex more. A record that crowds a session ends it when it is learnt.
 #[test]
 fn crowded_by_a_record_that_is_learnt(rt: HostRuntime) -> Result<(), Fail> {
-    let mut hall = nearly_full(rt.alloc()).ok_or("no hall")?;
+    let g = numbered(rt.alloc(), 4095).expect(&rt, "a graph");
+    let mut hall = Hall::new(rt.alloc(), &g, 8, 2)?;
     let rows = [
         (1, Begin, Done),
         (2, Begin, Done),
@@ -82,6 +46,6 @@ fn crowded_by_a_record_that_is_learnt(rt: HostRuntime) -> Result<(), Fail> {
         (1, PutOnce, Put(0)),
         (2, Learn, Crowded(0)),
     ];
-    assert_eq!(rt; wrong_event(&mut hall, &rows), None);
+    events(&rt, &mut hall, &rows);
     Ok(())
 }

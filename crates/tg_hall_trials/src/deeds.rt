@@ -5,10 +5,11 @@ ghost use Rattle.tg_names.specs.Sets.{IsNamed};
 ghost use Rattle.tg_graph.specs.StepWords.{IsStageableAct, IsNamedStep};
 ghost use Rattle.tg_hall.specs.Worlds.{IsStageable};
 
-use tg_graph::{Act, Name, Right, Rights, Rule, Step};
+use crate::letters::name;
+use tg_graph::{Act, Right, Rights, Rule, Step};
 use tg_hall::Event;
 
-/// What a seat does. Vertices are named by letters, and `_0` to `_9` by the digit.
+/// What a seat does. A vertex is named by its letter, and one of `_0` to `_9` by the digit.
 #[derive(Clone, Copy)]
 pub enum Deed {
     Begin,
@@ -25,16 +26,6 @@ pub enum Deed {
     Share(Right, [u8; 2]),
 }
 
-/// The name of one letter, or `_` and the digit.
-pub fn letter_name(letter: u8) -> Option<Name> {
-    let parsed = if letter.is_ascii_digit() {
-        Name::parse(&[b'_', letter])
-    } else {
-        Name::parse(&[letter])
-    };
-    parsed.ok()
-}
-
 // The rule that a deed asks for.
 fn rule_of(deed: Deed) -> Option<Rule>
     ensures { IfSome result (λ rule. IsNamed (rights_of rule)) }
@@ -42,60 +33,51 @@ fn rule_of(deed: Deed) -> Option<Rule>
     match deed {
         Deed::Take(names, letters) => {
             let [x, y, z] = names;
-            Some(Rule::Take {
-                x: letter_name(x)?,
-                y: letter_name(y)?,
-                z: letter_name(z)?,
-                rights: Rights::from_letters(letters)?,
-            })
+            let (x, y, z) = (name(x)?, name(y)?, name(z)?);
+            let rights = Rights::from_letters(letters)?;
+            Some(Rule::Take { x, y, z, rights })
         }
         Deed::Create(names, letters) => {
             let [x, n] = names;
-            Some(Rule::Create {
-                x: letter_name(x)?,
-                n: letter_name(n)?,
-                rights: Rights::from_letters(letters)?,
-            })
+            let (x, n) = (name(x)?, name(n)?);
+            let rights = Rights::from_letters(letters)?;
+            Some(Rule::Create { x, n, rights })
         }
         Deed::Remove(names, letters) => {
             let [x, y] = names;
-            Some(Rule::Remove {
-                x: letter_name(x)?,
-                y: letter_name(y)?,
-                rights: Rights::from_letters(letters)?,
-            })
+            let (x, y) = (name(x)?, name(y)?);
+            let rights = Rights::from_letters(letters)?;
+            Some(Rule::Remove { x, y, rights })
         }
         _ => None,
     }
 }
 
-/// The step that a deed stages. `None` where it stages none, or a letter in it names nothing.
+/// The step that a deed stages; `None` where it stages none, or what names a vertex in it is no letter and no
+/// digit.
 pub fn step_of(deed: Deed) -> Option<Step>
     ensures { IfSome result IsNamedStep }
 {
     match deed {
         Deed::Holds(right, names) => {
             let [x, y] = names;
-            Some(Step::Holds {
-                right,
-                x: letter_name(x)?,
-                y: letter_name(y)?,
-            })
+            let (x, y) = (name(x)?, name(y)?);
+            Some(Step::Holds { right, x, y })
         }
         Deed::Share(right, names) => {
             let [x, y] = names;
-            Some(Step::Share {
-                right,
-                x: letter_name(x)?,
-                y: letter_name(y)?,
-            })
+            let (x, y) = (name(x)?, name(y)?);
+            Some(Step::Share { right, x, y })
         }
-        rule => Some(Step::Do(rule_of(rule)?)),
+        other => {
+            let rule = rule_of(other)?;
+            Some(Step::Do(rule))
+        }
     }
 }
 
-/// The event that a deed of a seat is. `None` where it is none, or a letter in it names nothing.
-pub(crate) fn event_of(seat: u32, deed: Deed) -> Option<Event>
+/// The event that a deed of a seat is; `None` for a commit, which is several, and where `step_of` gives none.
+pub fn event_of(seat: u32, deed: Deed) -> Option<Event>
     ensures { IfSome result IsStageable }
 {
     match deed {
@@ -103,11 +85,14 @@ pub(crate) fn event_of(seat: u32, deed: Deed) -> Option<Event>
         Deed::Learn => Some(Event::Learn(seat)),
         Deed::PutOnce => Some(Event::Put(seat)),
         Deed::Abort => Some(Event::Abort(seat)),
-        step => Some(Event::Stage(seat, step_of(step)?)),
+        other => {
+            let step = step_of(other)?;
+            Some(Event::Stage(seat, step))
+        }
     }
 }
 
-/// The act that a deed is. `None` where it is none, or a letter in it names nothing.
+/// The act that a deed is; `None` for a deed that is an event and no act, and where `step_of` gives none.
 pub fn act_of(deed: Deed) -> Option<Act>
     ensures { IfSome result IsStageableAct }
 {
@@ -115,6 +100,9 @@ pub fn act_of(deed: Deed) -> Option<Act>
         Deed::Begin => Some(Act::Begin),
         Deed::Commit => Some(Act::Commit),
         Deed::Abort => Some(Act::Abort),
-        step => Some(Act::Stage(step_of(step)?)),
+        other => {
+            let step = step_of(other)?;
+            Some(Act::Stage(step))
+        }
     }
 }

@@ -1,5 +1,6 @@
 //! What seats are told.
-use crate::deeds::letter_name;
+use crate::deeds::Deed;
+use crate::letters::name;
 use tg_graph::{Refusal, Reply};
 use tg_hall::{HallFault, HallReply};
 
@@ -25,21 +26,8 @@ pub enum Word {
     JournalFull,
 }
 
-// The refusal of an event that a word is.
-fn fault_of(word: Word) -> Option<HallFault> {
-    match word {
-        Word::NoSeat => Some(HallFault::NoSeat),
-        Word::AlreadyOpen => Some(HallFault::AlreadyOpen),
-        Word::NotOpen => Some(HallFault::NotOpen),
-        Word::Changed(place, letter) => Some(HallFault::Changed {
-            place,
-            name: letter_name(letter)?,
-        }),
-        Word::Crowded(place) => Some(HallFault::Crowded { place }),
-        Word::JournalFull => Some(HallFault::JournalFull),
-        _ => None,
-    }
-}
+/// The number of a seat, what it does, and what it is told.
+pub type Row = (u32, Deed, Word);
 
 // The reply to a step that a word is.
 fn said(word: Word) -> Option<Reply> {
@@ -47,22 +35,49 @@ fn said(word: Word) -> Option<Reply> {
         Word::Did => Some(Reply::Done),
         Word::Yes => Some(Reply::Yes),
         Word::No => Some(Reply::No),
-        Word::Unknown(letter) => Some(Reply::Refused(Refusal::Unknown(letter_name(letter)?))),
+        Word::Unknown(letter) => Some(Reply::Refused(Refusal::Unknown(name(letter)?))),
         Word::Full => Some(Reply::Refused(Refusal::Full)),
         _ => None,
     }
 }
 
-/// The reply that a word is. `None` where a letter in it names nothing.
-pub fn reply_of(word: Word) -> Option<HallReply> {
+// The refusal of an event that a word is.
+fn fault_of(word: Word) -> Option<HallFault> {
+    match word {
+        Word::NoSeat => Some(HallFault::NoSeat),
+        Word::AlreadyOpen => Some(HallFault::AlreadyOpen),
+        Word::NotOpen => Some(HallFault::NotOpen),
+        Word::Changed(place, letter) => {
+            let name = name(letter)?;
+            Some(HallFault::Changed { place, name })
+        }
+        Word::Crowded(place) => Some(HallFault::Crowded { place }),
+        Word::JournalFull => Some(HallFault::JournalFull),
+        _ => None,
+    }
+}
+
+// The reply that a word is.
+fn reply_of(word: Word) -> Option<HallReply> {
+    if let Some(reply) = said(word) {
+        return Some(HallReply::Said(reply));
+    }
+    if let Some(fault) = fault_of(word) {
+        return Some(HallReply::Refused(fault));
+    }
     match word {
         Word::Done => Some(HallReply::Done),
         Word::Nothing => Some(HallReply::Nothing),
         Word::Learned(place) => Some(HallReply::Learned(place)),
         Word::Put(place) => Some(HallReply::Put(place)),
-        other => match said(other) {
-            Some(reply) => Some(HallReply::Said(reply)),
-            None => Some(HallReply::Refused(fault_of(other)?)),
-        },
+        _ => None,
+    }
+}
+
+/// Whether the word stands for the reply.
+pub fn is_reply(word: Word, reply: HallReply) -> bool {
+    match reply_of(word) {
+        Some(wanted) => reply == wanted,
+        None => false,
     }
 }

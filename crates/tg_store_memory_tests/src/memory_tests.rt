@@ -6,33 +6,19 @@ ghost use Rattle.tg_store.specs.Running.{IsOf};
 use std::alloc::{AllocError, Global};
 use std::process::Abort;
 use std::test::Fail;
-use tg_graph::{Graph, Refusal, Reply, Right};
+use tg_graph::{Graph, Reply, Right};
 use tg_graph_trials::graph;
-use tg_hall_trials::{Deed, holds, letter_name, step_of};
+use tg_hall_trials::{Deed, Word, holds, is_reply, step_of};
 use tg_journal::Front;
 use tg_store::{
-    Answered, BeginFault, Begun, CommitFault, Committed, Record, Seat, Session, Store, StoreFault,
-    StoreMeetFault,
+    Answered, BeginFault, Begun, CommitFault, Committed, HallReply, Record, Seat, Session, Store,
+    StoreFault, StoreMeetFault,
 };
+use tg_store_trials::opened;
 
 // The vertices a, b, c and d. a has t over b, and b has r over c.
 fn four(alloc: Global) -> Option<Graph> {
     graph(alloc, "a b c d", "a b t, b c r")
-}
-
-// A store with two seats over the graph.
-fn started(alloc: Global, graph: &Graph, cells: usize) -> Result<(Store, Seat, Seat), StoreFault>
-    ensures one { IfOk result (λ r. IsOf r.0 r.1) }
-    ensures two { IfOk result (λ r. IsOf r.0 r.2) }
-{
-    let (store, mut seats) = match Store::start(alloc, graph, cells, 2) {
-        Ok(made) => made,
-        Err(fault) => return Err(fault),
-    };
-    let (Some(two), Some(one)) = (seats.pop(), seats.pop()) else {
-        return Err(StoreFault::Seats);
-    };
-    Ok((store, one, two))
 }
 
 // A store over the four vertices with two seats and so many cells.
@@ -44,8 +30,9 @@ fn opened_with(rt: &impl Abort, alloc: Global, cells: usize) -> (Store, Seat, Se
         Some(graph) => graph,
         None => four(alloc).expect(rt, "a graph"),
     };
-    match started(alloc, &graph, cells) {
-        Err(StoreFault::Memory) => started(alloc, &graph, cells).expect(rt, "a store"),
+    let first = opened(alloc, &graph, cells);
+    match first {
+        Err(StoreFault::Memory) => opened(alloc, &graph, cells).expect(rt, "a store"),
         made => made.expect(rt, "a store"),
     }
 }
@@ -72,29 +59,26 @@ fn begun(rt: &impl Abort, store: &Store, seat: Seat) -> Session
     }
 }
 
-// Whether the session says so of the step that the deed stages.
-fn says(session: &mut Session, deed: Deed, reply: Reply) -> bool
+// Whether the session is told so of the step that the deed stages.
+fn is_told(session: &mut Session, deed: Deed, word: Word) -> bool
     ensures { session.new.seat ≡ session.old.seat }
 {
-    match step_of(deed) {
-        Some(step) => session.step(step) == Ok(reply),
-        None => false,
+    let Some(step) = step_of(deed) else {
+        return false;
+    };
+    match session.step(step) {
+        Ok(reply) => is_reply(word, HallReply::Said(reply)),
+        Err(AllocError) => false,
     }
 }
 
-// The session says so of the deed, at the second try where memory was refused to the first.
-fn stage(rt: &impl Abort, session: &mut Session, deed: Deed, reply: Reply)
+// The session is told so, at the second try where memory was refused to the first.
+fn stage(rt: &impl Abort, session: &mut Session, deed: Deed, word: Word)
     ensures { session.new.seat ≡ session.old.seat }
 {
-    let staged = says(session, deed, reply) || says(session, deed, reply);
+    let staged = is_told(session, deed, word) || is_told(session, deed, word);
     assert!(rt; staged);
 }
-
-// a takes r over c.
-const TAKES: Deed = Deed::Take(*b"abc", b"r");
-
-// d creates n.
-const CREATES: Deed = Deed::Create(*b"dn", b"g");
 
 // A session that was refused memory goes on, and its record has the place that it would have had.
 fn committed(rt: &impl Abort, store: &Store, session: Session, place: usize) -> Seat
@@ -118,9 +102,12 @@ fn committed(rt: &impl Abort, store: &Store, session: Session, place: usize) -> 
 fn refused_commits(rt: HostRuntime) {
     let (store, one, _two) = opened_on_four(&rt, rt.alloc());
     let mut session = begun(&rt, &store, one);
-    let z = letter_name(b'z').expect(&rt, "a name");
-    let unknown = Reply::Refused(Refusal::Unknown(z));
-    stage(&rt, &mut session, Deed::Holds(Right::R, *b"az"), unknown);
+    stage(
+        &rt,
+        &mut session,
+        Deed::Holds(Right::R, *b"az"),
+        Word::Unknown(b'z'),
+    );
     let one = committed(&rt, &store, session, 0);
     let session = begun(&rt, &store, one);
     assert!(rt; committed(&rt, &store, session, 1).taken() == 2);
@@ -132,7 +119,7 @@ fn put_first(rt: &impl Abort, store: &Store, seat: Seat) -> Seat
     ensures { IsOf store.now result }
 {
     let mut session = begun(rt, store, seat);
-    stage(rt, &mut session, CREATES, Reply::Done);
+    stage(rt, &mut session, Deed::Create(*b"dn", b"g"), Word::Did);
     committed(rt, store, session, 0)
 }
 
@@ -142,14 +129,17 @@ fn behind(rt: &impl Abort, store: &Store, one: Seat, two: Seat) -> Session
     ensures { IsOf store.now result.seat }
 {
     let mut session = begun(rt, store, one);
-    stage(rt, &mut session, TAKES, Reply::Done);
+    stage(rt, &mut session, Deed::Take(*b"abc", b"r"), Word::Did);
     assert!(rt; put_first(rt, store, two).taken() == 1);
     session
 }
 
 // Whether a took r over c.
 fn is_done_take(answered: &Answered) -> bool {
-    answered.reply == Reply::Done && step_of(TAKES) == Some(answered.step)
+    match step_of(Deed::Take(*b"abc", b"r")) {
+        Some(step) => answered.reply == Reply::Done && answered.step == step,
+        None => false,
+    }
 }
 
 // Its only step was done, and it is the first of its seat.
@@ -180,7 +170,7 @@ fn a_full_journal_before_want_of_room(rt: HostRuntime) {
     let (store, one, two) = opened_with(&rt, rt.alloc(), 1);
     assert!(rt; put_first(&rt, &store, two).taken() == 1);
     let mut session = begun(&rt, &store, one);
-    stage(&rt, &mut session, Deed::Create(*b"dm", b"g"), Reply::Done);
+    stage(&rt, &mut session, Deed::Create(*b"dm", b"g"), Word::Did);
     let full = matches!(
         store.commit(session),
         Committed::Refused(_, CommitFault::JournalFull)
@@ -271,7 +261,8 @@ fn refused_meeting(rt: HostRuntime) -> Result<(), Fail> {
 fn asked(rt: &impl Abort, session: &mut Session) -> Result<Reply, AllocError>
     ensures { session.new.seat ≡ session.old.seat }
 {
-    session.step(step_of(Deed::Share(Right::W, *b"ac")).expect(rt, "a step"))
+    let step = step_of(Deed::Share(Right::W, *b"ac")).expect(rt, "a step");
+    session.step(step)
 }
 
 // Asks twice.
@@ -330,15 +321,22 @@ fn questions_of_a_session_that_knows(rt: HostRuntime) {
     answered_often(&rt, &mut session);
 }
 
+// Whether d is said to create n.
+fn creates(session: &mut Session) -> bool
+    ensures { session.new.seat ≡ session.old.seat }
+{
+    is_told(session, Deed::Create(*b"dn", b"g"), Word::Did)
+}
+
 // A rule gives up what is known, also where it is refused.
 #[test]
 fn questions_after_a_rule(rt: HostRuntime) {
     let (store, one, _two) = opened_on_four(&rt, rt.alloc());
     let mut session = begun(&rt, &store, one);
     ask_until_it_knows(&rt, &mut session);
-    let staged = says(&mut session, CREATES, Reply::Done);
+    let staged = creates(&mut session);
     assert!(rt; !session.knows_any());
-    assert!(rt; staged || says(&mut session, CREATES, Reply::Done));
+    assert!(rt; staged || creates(&mut session));
     ask_until_it_knows(&rt, &mut session);
     answered_often(&rt, &mut session);
 }

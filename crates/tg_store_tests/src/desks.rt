@@ -1,17 +1,16 @@
 //! A store with two seats for the tests, where both act in turn.
-ghost use Rattle.std.specs.Prelude.{◌≡◌, None, Some, IfOk};
+ghost use Rattle.std.specs.Prelude.{◌≡◌, None, Some};
 ghost use Rattle.std.specs.Option.{ForSome};
 ghost use Rattle.tg_graph.specs.StepWords.{IsStageableAct, IsNamedStep};
 ghost use Rattle.tg_store.specs.Running.{IsOf};
 
-use std::alloc::{AllocError, Global};
+use std::alloc::AllocError;
 use std::mem;
 use std::process::Abort;
-use tg_graph::{Act, Graph, Step};
-use tg_hall_trials::{Row, act_of, reply_of};
-use tg_store::{
-    Begun, CommitFault, Committed, HallFault, HallReply, Seat, Session, Store, StoreFault,
-};
+use tg_graph::{Act, Step};
+use tg_hall_trials::{Row, act_of, is_reply};
+use tg_store::{Begun, CommitFault, Committed, HallFault, HallReply, Seat, Session, Store};
+use tg_store_trials::{agreeing, lonely};
 
 /// A seat that is free, or its session.
 #[derive(Drop)]
@@ -30,21 +29,6 @@ pub struct Desk {
     ghost one_session: { ForSome one.session (λ s. IsOf store s.seat) },
     ghost two_seat: { ForSome two.seat (IsOf store) },
     ghost two_session: { ForSome two.session (λ s. IsOf store s.seat) },
-}
-
-/// A store with two seats.
-pub fn opened(alloc: Global, graph: &Graph, cells: usize) -> Result<(Store, Seat, Seat), StoreFault>
-    ensures one { IfOk result (λ r. IsOf r.0 r.1) }
-    ensures two { IfOk result (λ r. IsOf r.0 r.2) }
-{
-    let (store, mut seats) = match Store::start(alloc, graph, cells, 2) {
-        Ok(made) => made,
-        Err(fault) => return Err(fault),
-    };
-    let (Some(two), Some(one)) = (seats.pop(), seats.pop()) else {
-        return Err(StoreFault::Seats);
-    };
-    Ok((store, one, two))
 }
 
 fn free(seat: Seat) -> Chair
@@ -160,28 +144,6 @@ fn act(rt: &impl Abort, store: &Store, chair: Chair, act: &Act) -> (Chair, HallR
     }
 }
 
-/// Whether the two agree.
-pub fn agreeing(store: &Store, one: Seat, two: Seat) -> (Seat, Seat, bool)
-    requires { IsOf store.now one × IsOf store.now two }
-    ensures { IsOf store.now result.0 × IsOf store.now result.1 }
-{
-    let seats = [one, two];
-    let agreed = store.agreed(&seats);
-    let [one, two] = seats;
-    (one, two, agreed)
-}
-
-/// Whether it agrees with itself alone.
-pub fn lonely(store: &Store, seat: Seat) -> (Seat, bool)
-    requires { IsOf store.now seat }
-    ensures { IsOf store.now result.0 }
-{
-    let seats = [seat];
-    let agreed = store.agreed(&seats);
-    let [seat] = seats;
-    (seat, agreed)
-}
-
 /// The seat sees what the other has seen.
 pub fn met(rt: &impl Abort, store: &Store, seat: Seat, other: &Seat) -> Seat
     requires { IsOf store.now seat × IsOf store.now other.now }
@@ -244,9 +206,9 @@ impl Desk {
     pub fn play(&mut self, rt: &impl Abort, rows: &[Row]) {
         for at in 0..rows.len() {
             let (seat, deed, word) = rows[at];
-            let act = act_of(deed).expect(rt, "an act");
-            let reply = self.act(rt, seat, &act);
-            assert!(rt; reply_of(word) == Some(reply), "row {at}");
+            let deed = act_of(deed).expect(rt, "an act");
+            let reply = self.act(rt, seat, &deed);
+            assert!(rt; is_reply(word, reply), "row {at}");
         }
     }
 
@@ -287,10 +249,5 @@ impl Desk {
         let (two, agreed) = lonely(&self.store, two);
         self.two = free(two);
         agreed
-    }
-
-    /// Whether no seats agree.
-    pub fn agreed_of_none(&self) -> bool {
-        self.store.agreed(&[])
     }
 }

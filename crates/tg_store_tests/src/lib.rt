@@ -1,11 +1,9 @@
 //! The tests of `tg_store`, which stand apart from it so that it is proved once. Those where memory is refused
-//! once stand in `tg_store_memory_tests`.
+//! stand in `tg_store_memory_tests`.
 #![tactic(auto)]
 
 #[cfg(test)]
 mod desks;
-#[cfg(test)]
-mod famine_tests;
 #[cfg(test)]
 mod meeting_tests;
 #[cfg(test)]

@@ -2,7 +2,7 @@ ghost use Rattle.std.specs.Prelude.{IfOk};
 ghost use Rattle.tg_graph.specs.StepWords.{IsNamedStep};
 ghost use Rattle.tg_store.specs.Running.{IsOf};
 
-use crate::desks::{Desk, agreeing, met, opened};
+use crate::desks::{Desk, met};
 use std::alloc::{AllocError, Global};
 use std::test::Fail;
 use std::{process, thread};
@@ -12,11 +12,12 @@ use tg_hall_trials::Deed::{Abort, Begin, Commit, Holds, Share, Take};
 use tg_hall_trials::Word::{Did, Done, No, Put, Yes};
 use tg_hall_trials::{shows, step_of};
 use tg_store::{Begun, Committed, Seat, Session, Store};
+use tg_store_trials::{agreeing, opened};
 
 // A store of four cells, over the vertices a, b and c, where the first seat has put that a takes r
 // over c from b.
 fn first_put(rt: &impl process::Abort, alloc: Global) -> Result<Desk, Fail> {
-    let g = graph(alloc, "a b c", "a b t, b c r").ok_or("no graph")?;
+    let g = graph(alloc, "a b c", "a b t, b c r").expect(rt, "a graph");
     let (store, one, two) = opened(alloc, &g, 4)?;
     let mut desk = Desk::new(store, one, two);
     let rows = [
@@ -48,7 +49,6 @@ fn seats_that_meet(rt: HostRuntime) -> Result<(), Fail> {
     assert!(rt; !desk.knows(&rt, 2, 1));
     assert!(rt; desk.agreed(&rt));
     assert!(rt; !desk.agreed_alone(&rt));
-    assert!(rt; !desk.agreed_of_none());
     assert!(rt; shows(desk.seat(&rt, 2).graph(), 3, &[(*b"ac", b"r")]));
     let rows = [
         (2, Begin, Done),
@@ -72,7 +72,7 @@ fn owns_its_rows(rt: &impl process::Abort, seat: &Seat) {
 // Seats share no row, neither from the start nor once each has taken in what the other has put.
 #[test]
 fn seats_share_no_rows(rt: HostRuntime) -> Result<(), Fail> {
-    let g = graph(rt.alloc(), "a b c", "a b t, b c r").ok_or("no graph")?;
+    let g = graph(rt.alloc(), "a b c", "a b t, b c r").expect(&rt, "a graph");
     let (store, one, two) = opened(rt.alloc(), &g, 4)?;
     owns_its_rows(&rt, &one);
     owns_its_rows(&rt, &two);
@@ -206,9 +206,9 @@ fn united(rt: &impl process::Abort, store: &Store, one: Seat, two: Seat)
 #[test]
 fn two_seats(rt: HostRuntime) -> Result<(), Fail> {
     let alloc = rt.alloc();
-    let a = name("a").ok_or("no name")?;
-    let b = name("b").ok_or("no name")?;
-    let g = graph(alloc, "a b", "").ok_or("no graph")?;
+    let a = name("a").expect(&rt, "a name");
+    let b = name("b").expect(&rt, "a name");
+    let g = graph(alloc, "a b", "").expect(&rt, "a graph");
     let (store, one, two) = opened(alloc, &g, 100)?;
     let shared = &store;
     let (first, second) = thread::join(
@@ -231,16 +231,17 @@ fn two_seats(rt: HostRuntime) -> Result<(), Fail> {
 
 // Asks four times whether a can come to have w over c, which nobody has.
 fn ask_often(rt: &impl process::Abort, session: &mut Session) {
-    let asks = step_of(Share(Right::W, *b"ac")).expect(rt, "a step");
     for _ in 0..4 {
-        assert!(rt; session.step(asks) == Ok(Reply::No));
+        let asks = step_of(Share(Right::W, *b"ac")).expect(rt, "a step");
+        let reply = session.step(asks);
+        assert!(rt; reply == Ok(Reply::No));
     }
 }
 
 // Four questions that no edge answers are enough for a session to keep what they found.
 #[test]
 fn four_questions_are_kept(rt: HostRuntime) -> Result<(), Fail> {
-    let g = graph(rt.alloc(), "a b c", "a b t, b c r").ok_or("no graph")?;
+    let g = graph(rt.alloc(), "a b c", "a b t, b c r").expect(&rt, "a graph");
     let (store, one, _two) = opened(rt.alloc(), &g, 4)?;
     let Begun::Session(mut session) = store.begin(one) else {
         panic!(rt; "no session");

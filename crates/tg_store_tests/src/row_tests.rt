@@ -1,14 +1,14 @@
 // What seats do to one another at a store, one after another.
-use crate::desks::{Desk, opened};
+use crate::desks::Desk;
 use std::alloc::Global;
 use std::process;
-use std::test::Fail;
 use tg_graph::{Graph, MOST_VERTICES, Right};
-use tg_graph_trials::{graph, numbered};
+use tg_graph_trials::{graph, name, numbered};
 use tg_hall_trials::Deed::{Abort, Begin, Commit, Create, Holds, Share, Take};
 use tg_hall_trials::Word::{Changed, Crowded, Did, Done, Full, No, Put, Unknown, Yes};
-use tg_hall_trials::{Label, Row, letter_name, shows};
+use tg_hall_trials::{Label, Row, shows};
 use tg_store::{Store, StoreFault};
+use tg_store_trials::opened;
 
 // The rows are played at a store of two seats and eight cells over the graph.
 fn in_store(rt: &impl process::Abort, alloc: Global, graph: &Graph, rows: &[Row]) -> Desk {
@@ -38,8 +38,8 @@ fn stands(
 
 // The seat that was refused begins again on what the other has done.
 #[test]
-fn a_row_that_was_read(rt: HostRuntime) -> Result<(), Fail> {
-    let g = graph(rt.alloc(), "a b c", "a b t, a c w, b a t, b c r").ok_or("no graph")?;
+fn a_row_that_was_read(rt: HostRuntime) {
+    let g = graph(rt.alloc(), "a b c", "a b t, a c w, b a t, b c r").expect(&rt, "a graph");
     let rows = [
         (1, Begin, Done),
         (2, Begin, Done),
@@ -54,12 +54,11 @@ fn a_row_that_was_read(rt: HostRuntime) -> Result<(), Fail> {
     let desk = in_store(&rt, rt.alloc(), &g, &rows);
     stands(&rt, &desk, 1, 1, 3, &labels);
     stands(&rt, &desk, 2, 1, 3, &labels);
-    Ok(())
 }
 
 #[test]
-fn a_name_that_was_no_vertex(rt: HostRuntime) -> Result<(), Fail> {
-    let g = graph(rt.alloc(), "a b c", "a b t").ok_or("no graph")?;
+fn a_name_that_was_no_vertex(rt: HostRuntime) {
+    let g = graph(rt.alloc(), "a b c", "a b t").expect(&rt, "a graph");
     let rows = [
         (1, Begin, Done),
         (1, Take(*b"abn", b"r"), Unknown(b'n')),
@@ -72,12 +71,11 @@ fn a_name_that_was_no_vertex(rt: HostRuntime) -> Result<(), Fail> {
     let desk = in_store(&rt, rt.alloc(), &g, &rows);
     stands(&rt, &desk, 1, 0, 3, &[(*b"ab", b"t")]);
     stands(&rt, &desk, 2, 1, 4, &labels);
-    Ok(())
 }
 
 #[test]
-fn two_sessions_apart(rt: HostRuntime) -> Result<(), Fail> {
-    let g = graph(rt.alloc(), "a b c d", "a b t, b c r").ok_or("no graph")?;
+fn two_sessions_apart(rt: HostRuntime) {
+    let g = graph(rt.alloc(), "a b c d", "a b t, b c r").expect(&rt, "a graph");
     let rows = [
         (1, Begin, Done),
         (2, Begin, Done),
@@ -90,13 +88,12 @@ fn two_sessions_apart(rt: HostRuntime) -> Result<(), Fail> {
     let desk = in_store(&rt, rt.alloc(), &g, &rows);
     stands(&rt, &desk, 1, 2, 5, &labels);
     stands(&rt, &desk, 2, 1, 5, &[(*b"dn", b"g"), (*b"ac", b"-")]);
-    Ok(())
 }
 
 // A look finds what is there: without a front, a seat that begins takes in what another has put.
 #[test]
-fn questions_after_a_commit(rt: HostRuntime) -> Result<(), Fail> {
-    let g = graph(rt.alloc(), "a b c", "a b t, b c r").ok_or("no graph")?;
+fn questions_after_a_commit(rt: HostRuntime) {
+    let g = graph(rt.alloc(), "a b c", "a b t, b c r").expect(&rt, "a graph");
     let rows = [
         (1, Begin, Done),
         (1, Take(*b"abc", b"r"), Did),
@@ -110,23 +107,20 @@ fn questions_after_a_commit(rt: HostRuntime) -> Result<(), Fail> {
     let desk = in_store(&rt, rt.alloc(), &g, &rows);
     stands(&rt, &desk, 1, 1, 3, &labels);
     stands(&rt, &desk, 2, 2, 3, &labels);
-    Ok(())
 }
 
 // Of p and q the graph has p, and no room for another.
 fn has_p(rt: &impl process::Abort, graph: &Graph) {
-    let p = letter_name(b'p').expect(rt, "a name");
-    let q = letter_name(b'q').expect(rt, "a name");
     assert!(rt; graph.len() == MOST_VERTICES);
-    assert!(rt; graph.knows(p));
-    assert!(rt; !graph.knows(q));
+    assert!(rt; graph.knows(name("p").expect(rt, "a name")));
+    assert!(rt; !graph.knows(name("q").expect(rt, "a name")));
 }
 
 // There is room for one vertex more, which the first seat's session takes. The second seat, which was crowded,
 // begins again on what the first has done.
 #[test]
-fn full_graphs(rt: HostRuntime) -> Result<(), Fail> {
-    let g = numbered(rt.alloc(), 4095).ok_or("no graph")?;
+fn full_graphs(rt: HostRuntime) {
+    let g = numbered(rt.alloc(), 4095).expect(&rt, "a graph");
     let rows = [
         (1, Begin, Done),
         (2, Begin, Done),
@@ -142,7 +136,6 @@ fn full_graphs(rt: HostRuntime) -> Result<(), Fail> {
     has_p(&rt, desk.seat(&rt, 1).graph());
     has_p(&rt, desk.seat(&rt, 2).graph());
     assert!(rt; desk.seat(&rt, 2).taken() == 1);
-    Ok(())
 }
 
 // There is no such store over the graph, for this fault.
@@ -158,14 +151,13 @@ fn refused(
 }
 
 #[test]
-fn limits(rt: HostRuntime) -> Result<(), Fail> {
+fn limits(rt: HostRuntime) {
     let alloc = rt.alloc();
     let g = Graph::new(alloc);
     refused(&rt, alloc, &g, 0, 1, StoreFault::Cells);
     refused(&rt, alloc, &g, 4097, 1, StoreFault::Cells);
     refused(&rt, alloc, &g, 1, 0, StoreFault::Seats);
     refused(&rt, alloc, &g, 1, 65, StoreFault::Seats);
-    let g = numbered(alloc, 4097).ok_or("no graph")?;
+    let g = numbered(alloc, 4097).expect(&rt, "a graph");
     refused(&rt, alloc, &g, 1, 1, StoreFault::TooManyVertices);
-    Ok(())
 }

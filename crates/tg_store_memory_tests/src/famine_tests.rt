@@ -3,13 +3,14 @@
 // and else everything is answered.
 ghost use Rattle.tg_store.specs.Running.{IsOf};
 
-use crate::desks::{lonely, opened};
+use std::alloc::AllocError;
 use std::process::Abort;
 use std::test::Fail;
 use tg_graph::{Graph, Right};
 use tg_graph_trials::graph;
 use tg_hall_trials::holds;
 use tg_store::{Begun, Committed, Seat, Session, Store, StoreFault};
+use tg_store_trials::{lonely, opened};
 
 // A seat that has no record to take in opens a session.
 fn begun(rt: &impl Abort, store: &Store, seat: Seat) -> Session
@@ -36,7 +37,7 @@ fn read(rt: &impl Abort, store: &Store, seat: &Seat, taken: usize)
 
 #[test]
 fn bare_begin(rt: HostRuntime) -> Result<(), Fail> {
-    let g = graph(rt.alloc(), "a b c", "a b t, b c r").ok_or("no graph")?;
+    let g = graph(rt.alloc(), "a b c", "a b t, b c r").ok_or(AllocError)?;
     let (store, seat, _) = opened(rt.alloc(), &g, 4)?;
     read(&rt, &store, &seat, 0);
     let seat = begun(&rt, &store, seat).abort();
@@ -58,7 +59,7 @@ fn goes_on(rt: &impl Abort, store: &Store, seat: Seat)
 
 #[test]
 fn a_record_read(rt: HostRuntime) -> Result<(), Fail> {
-    let g = graph(rt.alloc(), "a b c", "a b t, b c r").ok_or("no graph")?;
+    let g = graph(rt.alloc(), "a b c", "a b t, b c r").ok_or(AllocError)?;
     let (store, seat, _) = opened(rt.alloc(), &g, 4)?;
     match store.commit(begun(&rt, &store, seat)) {
         Committed::Done(seat, _) => goes_on(&rt, &store, seat),
