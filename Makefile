@@ -1,5 +1,6 @@
 # make demo       proves and builds the program, and shows it on the file service of examples/
-# make build      proves and builds it alone: about half an hour on four slow processors from nothing
+# make build      proves and builds it alone, and tells how far it is: about half an hour on four slow
+#                 processors from nothing. Broken off, it goes on where it was
 # make test       the merge gate, rt ci: from nothing two hours on four processors of 2.5 GHz, by estimate,
 #                 and 2.75 on slower ones; minutes where a toolchain keeps on its machine what it proved
 # make bodies     the wrong bodies alone, ten at once
@@ -54,7 +55,7 @@ RT_JOBS ?= $(shell awk -v most=$$(nproc) '/^MemTotal/ { n = int($$2 / 5e6); prin
 
 build:
 	@echo "Proving and building officer and the crates below it: about half an hour on four slow processors from nothing, seconds after that."
-	@log=$$(mktemp); (cd crates/officer && rt run < stdin) > $$log 2>&1 || { tail -n 20 $$log; rm -f $$log; exit 1; }; rm -f $$log
+	@python3 checks/build.py officer --lanes $(RT_JOBS)
 
 # The program that is there: to prove one takes long, and is begun only where that is asked for.
 there:
