@@ -1,6 +1,10 @@
 # make demo       proves and builds the program, and shows it on the file service of examples/
 # make build      proves and builds it alone, and tells how far it is: about half an hour on four slow
 #                 processors from nothing. Broken off, it goes on where it was
+# make try        asks the program as it is built without a proof, in a minute, as in
+#                 make try ASK='share graph r client payroll'. The file service's texts are called graph,
+#                 policy, rules, script and case there; GRAPH=FILE gives another graph. Without ASK a graph
+#                 and rules come on standard input, as with ASK='< case'
 # make test       the merge gate, rt ci: from nothing two hours on four processors of 2.5 GHz, by estimate,
 #                 and 2.75 on slower ones; minutes where a toolchain keeps on its machine what it proved
 # make bodies     the wrong bodies alone, ten at once
@@ -60,6 +64,12 @@ build:
 # The program that is there: to prove one takes long, and is begun only where that is asked for.
 there:
 	@test -x "$(OFFICER)" || { echo "There is no $(OFFICER) yet: make build proves and builds it."; exit 1; }
+
+# This proves nothing. ASK is a command line of the program.
+.PHONY: try
+
+try:
+	@python3 checks/trial.py --graph "$(GRAPH)" -- "$$ASK"
 
 # (the lines at the head of this file)
 help:
