@@ -5,6 +5,9 @@
 #                 make try ASK='share graph r client payroll'. The file service's texts are called graph,
 #                 policy, rules, script and case there; GRAPH=FILE gives another graph. Without ASK a graph
 #                 and rules come on standard input, as with ASK='< case'
+# make quick      tries, without a proof, the tests of the crates that have changed since origin/main, and
+#                 of those above them, and then the cases: minutes
+# make quick-all  the same of all crates
 # make test       the merge gate, rt ci: from nothing two hours on four processors of 2.5 GHz, by estimate,
 #                 and 2.75 on slower ones; minutes where a toolchain keeps on its machine what it proved
 # make bodies     the wrong bodies alone, ten at once
@@ -65,11 +68,17 @@ build:
 there:
 	@test -x "$(OFFICER)" || { echo "There is no $(OFFICER) yet: make build proves and builds it."; exit 1; }
 
-# This proves nothing. ASK is a command line of the program.
-.PHONY: try
+# These prove nothing. ASK is a command line of the program.
+.PHONY: try quick quick-all
 
 try:
 	@python3 checks/trial.py --graph "$(GRAPH)" -- "$$ASK"
+
+quick:
+	@python3 checks/quick.py
+
+quick-all:
+	@python3 checks/quick.py --all
 
 # (the lines at the head of this file)
 help:
