@@ -2,9 +2,9 @@
 # make build      proves and builds it alone, and tells how far it is: about half an hour on four slow
 #                 processors from nothing. Broken off, it goes on where it was
 # make try        asks the program as it is built without a proof, in a minute, as in
-#                 make try ASK='share graph r client payroll'. Where graph, policy, rules, script and case
-#                 stand, the file service's texts are meant; GRAPH=FILE gives another graph. Without ASK a
-#                 graph and rules come on standard input
+#                 make try ASK='share graph r client payroll'. The file service's texts are called graph,
+#                 policy, rules, script and case there; GRAPH=FILE gives another graph. Without ASK a graph
+#                 and rules come on standard input, as with ASK='< case'
 # make quick      tries, without a proof, the tests of the crates that have changed since origin/main, and
 #                 of those above them, and then the cases: minutes
 # make quick-all  the same of all crates

@@ -27,8 +27,8 @@ SILENCE = 60
 # What a run says of the functions that it has checked so far.
 CHECKED = re.compile(r"^(?:so far:|checked .*,) (\d+ of \d+)\b", re.M)
 WAITS = "rt: waiting for another rt"
-# What it lists last of all, whether the crate is proved or not.
-LISTS = re.compile(r"(logic /|library |statements |crate )")
+# Lines that say nothing of what is not proved.
+LISTS = re.compile(r"(fn .*: proved$|logic /|library |statements |crate )")
 
 
 class NotProved(Exception):

@@ -1,18 +1,19 @@
 #!/usr/bin/env python3
-"""Tries the tests of the crates that have changed and of those above them, then the cases: proves nothing.
+"""Tries the tests of the crates that have changed, and of those above them, and then the cases.
 
-quick.py [--all] [--top FOLDER]. A crate has changed where a file of it, or its line in crates.txt, is
-not as it was when HEAD and origin/main parted; that nothing is committed makes no difference. With
---all, and where there is no origin/main, each crate is tried.
+quick.py [--all] [--top FOLDER]. Nothing is proved. A crate has changed where a file of it, or its line
+in crates.txt, is not as it was when HEAD and origin/main parted, be it committed or not. With --all,
+and where there is no origin/main, each crate is tried.
 
-`rt try --test` builds the tests of a crate and all that is below it, of three crates at once. Of tests
-that fail it is shown what they said. Tests that can't be built, or don't end, are a failure. A library
-without tests can't be built by itself: it passes where a crate above it was built. A program without
-tests passes where it was built and has ended. The cases are tried by `checks/cases.py --trial`.
+`rt try --test` builds the tests of a crate with all that is below it, and runs them: three crates at
+once. Of tests that fail it is shown what was said. Tests that can't be built, or don't end, are one
+failure. A library without tests can't be tried alone: it passes where a crate above it was built. A
+program without tests passes where it was built and has ended. `checks/cases.py --trial` tries the cases.
 
 The last line is `N passed, M failed`; the status is 1 where something failed.
 """
 import argparse
+import os
 import re
 import subprocess
 import sys
@@ -22,7 +23,7 @@ from toolchain.crates import TOP, Repository, libraries_in
 from toolchain.running import Ended, Runs, want_toolchain
 
 # How many crates are tried at once, and how many seconds the tests of one may take.
-LANES, LONGEST = 3, 600
+LANES, LONGEST = min(3, os.cpu_count() or 1), 600
 # The counts of a crate's tests, and those of the cases.
 TESTED = re.compile(r"^test result: .*?(\d+) passed; (\d+) failed", re.M)
 COUNTED = re.compile(r"^(\d+) passed, (\d+) failed$", re.M)
@@ -39,10 +40,10 @@ def git(top, *words):
 
 
 def changed_crates(repository):
-    """The crates that have changed since HEAD and origin/main parted: all where there is no origin/main."""
+    """The crates that have changed since HEAD and origin/main parted, or None where no origin/main is."""
     parted = git(repository.top, "merge-base", "HEAD", "origin/main")
     if parted is None:
-        return list(repository.below)
+        return None
     since = parted.strip()
     changed = git(repository.top, "diff", "--name-only", "--no-renames", "--relative", "-z", since)
     new = git(repository.top, "ls-files", "--others", "--exclude-standard", "-z")
@@ -128,11 +129,11 @@ def main():
     given, begun = options(), time.monotonic()
     want_toolchain()
     repository = Repository(given.top)
-    crates = list(repository.below)
-    if not given.all:
-        changed = changed_crates(repository)
-        crates = repository.with_all_above(changed)
-        print("changed since origin/main:", *changed or ["no crate"], flush=True)
+    changed = None if given.all else changed_crates(repository)
+    crates = repository.with_all_above(repository.below if changed is None else changed)
+    if changed is not None:
+        print("changed since origin/main:", *changed or ["no crate"])
+    print(f"{len(crates)} of {len(repository.below)} crates are tried, then the cases", flush=True)
     with Runs() as runs:
         quick = Quick(repository, runs)
         try:
@@ -141,7 +142,7 @@ def main():
         except Ended as ended:
             sys.exit(ended.status)
     minutes = (time.monotonic() - begun) / 60
-    print(f"Nothing was proved: {len(crates)} crates and the cases were tried in {minutes:.1f} minutes.")
+    print(f"Nothing was proved. It took {minutes:.1f} minutes.")
     print(f"{quick.passed} passed, {quick.failed} failed")
     sys.exit(1 if quick.failed else 0)
 

@@ -72,12 +72,16 @@ def is_below(path):
     return os.path.isfile(path) and not os.path.isabs(path) and ".." not in path.split("/")
 
 
+def is_answered(said):
+    """Whether the program was built, and ended by itself."""
+    return any(line.startswith(ENDED) for line in said.splitlines()[-1:])
+
+
 def messages(said):
     """What the program said where it ended by itself, and else all that was said."""
     lines = said.splitlines()
-    if lines and lines[-1].startswith(ENDED):
-        while lines and SAYS.match(lines[-1]):
-            lines.pop()
+    while is_answered(said) and lines and SAYS.match(lines[-1]):
+        lines.pop()
     return "".join(line + "\n" for line in lines)
 
 
@@ -111,8 +115,10 @@ def main():
             run = runs.wait()[0]
         except Ended as ended:
             sys.exit(ended.status)
-        sys.stderr.write(messages(run.said()))
-    print(f"Nothing was proved. The status is {run.status()}.", file=sys.stderr)
+        said = run.said()
+    told = "The program ended" if is_answered(said) else "The program did not answer, and rt try ended"
+    sys.stderr.write(messages(said))
+    print(f"{told} with status {run.status()}. Nothing was proved.", file=sys.stderr)
     sys.exit(run.status())
 
 
