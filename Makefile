@@ -1,5 +1,5 @@
 # make demo       proves and builds the program, and shows it on the file service of examples/
-# make build      proves and builds it alone, and tells how far it is: about half an hour on four slow
+# make build      proves and builds it alone, and tells how far it is: by estimate 40 minutes on four
 #                 processors from nothing. Broken off, it goes on where it was
 # make try        asks the program as it is built without a proof, in a minute, as in
 #                 make try ASK='share graph r client payroll'. The file service's texts are called graph,
@@ -8,8 +8,8 @@
 # make quick      tries, without a proof, the tests of the crates that have changed since origin/main, and
 #                 of those above them, and then the cases: minutes
 # make quick-all  the same of all crates
-# make test       the merge gate, rt ci: from nothing two hours on four processors of 2.5 GHz, by estimate,
-#                 and 2.75 on slower ones; minutes where a toolchain keeps on its machine what it proved
+# make test       the merge gate, rt ci: from nothing by estimate an hour and a half on four processors of
+#                 2.5 GHz; minutes where a toolchain keeps on its machine what it proved
 # make bodies     the wrong bodies alone, ten at once
 # make refusals   the memory tests with each request for memory refused in turn: seconds, once the
 #                 gate or rt test has built the tests
@@ -62,7 +62,7 @@ RT_JOBS ?= $(shell awk -v most=$$(nproc) '/^MemTotal/ { n = int($$2 / 5e6); prin
 .PHONY: build demo there help examples cases pictures test bodies refusals man install uninstall bench memory races hostile fuzz limits rbac pipeline
 
 build:
-	@echo "Proving and building officer and the crates below it: about half an hour on four slow processors from nothing, seconds after that."
+	@echo "Proving and building officer and the crates below it: by estimate 40 minutes on four processors from nothing, seconds after that."
 	@python3 checks/build.py officer --lanes $(RT_JOBS)
 
 # The program that is there: to prove one takes long, and is begun only where that is asked for.
