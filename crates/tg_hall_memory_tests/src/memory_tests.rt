@@ -47,8 +47,8 @@ fn act(rt: &impl Abort, deed: Deed) -> Act
     act_of(deed).expect(rt, "an act")
 }
 
-fn is_refused_memory(reply: HallReply) -> bool {
-    reply == HallReply::Refused(HallFault::Memory)
+fn is_refused_memory(reply: &HallReply) -> bool {
+    matches!(reply, HallReply::Refused(HallFault::Memory))
 }
 
 // The row as an event, which is answered so. Where memory was refused, nothing has changed.
@@ -58,7 +58,7 @@ fn happened(rt: &impl Abort, hall: &mut Hall, row: &Row) {
     let first = hall.taken(1);
     let second = hall.taken(2);
     let mut answer = hall.step(event(rt, seat, deed));
-    if is_refused_memory(answer) {
+    if is_refused_memory(&answer) {
         assert!(rt; hall.len() == len);
         assert!(rt; hall.taken(1) == first);
         assert!(rt; hall.taken(2) == second);
@@ -78,7 +78,7 @@ fn told(rt: &impl Abort, hall: &mut Hall, row: &Row) {
     let (seat, deed, word) = *row;
     let len = hall.len();
     let mut answer = hall.act(seat, &act(rt, deed));
-    if is_refused_memory(answer) {
+    if is_refused_memory(&answer) {
         assert!(rt; hall.len() == len);
         answer = hall.act(seat, &act(rt, deed));
     }
@@ -210,7 +210,7 @@ fn refused_in_a_run(rt: HostRuntime) {
     };
     let [begun, put] = replies;
     // Where no session was opened, none is put.
-    assert!(rt; begun == HallReply::Done || is_refused_memory(begun));
+    assert!(rt; begun == HallReply::Done || is_refused_memory(&begun));
     assert!(rt; hall.len() == if put == HallReply::Put(0) { 1 } else { 0 });
 }
 
@@ -231,7 +231,7 @@ fn know(rt: &impl Abort, hall: &mut Hall) {
 }
 
 // Whether memory was refused at the second seat, which it never is while the first one knows something.
-fn is_refused_beside(rt: &impl Abort, knew: bool, reply: HallReply) -> bool {
+fn is_refused_beside(rt: &impl Abort, knew: bool, reply: &HallReply) -> bool {
     let refused = is_refused_memory(reply);
     assert!(rt; !(refused && knew));
     refused
@@ -252,7 +252,7 @@ fn events_beside_a_session_that_knows(rt: HostRuntime) {
         let (seat, deed, word) = *row;
         let knew = hall.knows_any();
         let reply = hall.step(event(&rt, seat, deed));
-        if is_refused_beside(&rt, knew, reply) {
+        if is_refused_beside(&rt, knew, &reply) {
             happened(&rt, &mut hall, row);
         } else {
             assert!(rt; is_reply(word, reply));
@@ -266,7 +266,7 @@ fn an_act_beside_a_session_that_knows(rt: HostRuntime) {
     know(&rt, &mut hall);
     let knew = hall.knows_any();
     let reply = hall.act(2, &act(&rt, Begin));
-    assert!(rt; !is_refused_beside(&rt, knew, reply));
+    assert!(rt; !is_refused_beside(&rt, knew, &reply));
     assert!(rt; hall.taken(2) == Some(1));
 }
 
@@ -288,7 +288,7 @@ fn a_refused_put_after_questions(rt: HostRuntime) {
     know(&rt, &mut hall);
     let reply = hall.step(event(&rt, 1, PutOnce));
     assert!(rt; !hall.knows_any());
-    if is_refused_memory(reply) {
+    if is_refused_memory(&reply) {
         happened(&rt, &mut hall, &(1, PutOnce, Put(1)));
     } else {
         assert!(rt; reply == HallReply::Put(1));
