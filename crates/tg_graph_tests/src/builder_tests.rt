@@ -1,6 +1,5 @@
 // Graphs that are built edge by edge, in orders in which edges wait for their rows and in others.
 use crate::test_values::{name, remove, same, set, with_edge};
-use bitflags::Flags;
 use std::alloc::Global;
 use std::process::Abort;
 use std::test::Fail;

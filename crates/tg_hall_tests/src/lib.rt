@@ -1,5 +1,4 @@
-//! The tests of `tg_hall`, which stand apart from it so that it is proved once. Those where memory is refused
-//! once stand in `tg_hall_memory_tests`.
+//! The tests of `tg_hall`, which stand apart from it so that it is proved once.
 #![tactic(auto)]
 
 #[cfg(test)]
@@ -8,5 +7,7 @@ mod answer_tests;
 mod famine_tests;
 #[cfg(test)]
 mod limit_tests;
+#[cfg(test)]
+mod memory_tests;
 #[cfg(test)]
 mod test_halls;

@@ -1,5 +1,4 @@
 // What seats do to one another at a store, one after another.
-use crate::desks::Desk;
 use std::alloc::Global;
 use std::process;
 use tg_graph::{Graph, MOST_VERTICES, Right};
@@ -8,7 +7,7 @@ use tg_hall_trials::Deed::{Abort, Begin, Commit, Create, Holds, Share, Take};
 use tg_hall_trials::Word::{Changed, Crowded, Did, Done, Full, No, Put, Unknown, Yes};
 use tg_hall_trials::{Label, Row, shows};
 use tg_store::{Store, StoreFault};
-use tg_store_trials::opened;
+use tg_store_trials::{Desk, opened};
 
 // The rows are played at a store of two seats and eight cells over the graph.
 fn in_store(rt: &impl process::Abort, alloc: Global, graph: &Graph, rows: &[Row]) -> Desk {
@@ -16,7 +15,7 @@ fn in_store(rt: &impl process::Abort, alloc: Global, graph: &Graph, rows: &[Row]
         panic!(rt; "no store");
     };
     let mut desk = Desk::new(store, one, two);
-    desk.play(rt, rows);
+    assert!(rt; desk.play(rows) == None);
     desk
 }
 
@@ -30,7 +29,7 @@ fn stands(
     len: usize,
     labels: &[Label],
 ) {
-    let seat = desk.seat(rt, number);
+    let seat = desk.seat(number).expect(rt, "a free seat");
     assert!(rt; seat.number() == number);
     assert!(rt; seat.taken() == taken);
     assert!(rt; shows(seat.graph(), len, labels));
@@ -109,8 +108,11 @@ fn questions_after_a_commit(rt: HostRuntime) {
     stands(&rt, &desk, 2, 2, 3, &labels);
 }
 
-// Of p and q the graph has p, and no room for another.
-fn has_p(rt: &impl process::Abort, graph: &Graph) {
+// The seat of the number has taken in one record. Of p and q its graph has p, and no room for another.
+fn has_p(rt: &impl process::Abort, desk: &Desk, number: u32) {
+    let seat = desk.seat(number).expect(rt, "a free seat");
+    assert!(rt; seat.taken() == 1);
+    let graph = seat.graph();
     assert!(rt; graph.len() == MOST_VERTICES);
     assert!(rt; graph.knows(name("p").expect(rt, "a name")));
     assert!(rt; !graph.knows(name("q").expect(rt, "a name")));
@@ -132,10 +134,9 @@ fn full_graphs(rt: HostRuntime) {
     ];
     let mut desk = in_store(&rt, rt.alloc(), &g, &rows);
     stands(&rt, &desk, 2, 0, 4095, &[]);
-    desk.play(&rt, &[(2, Begin, Done), (2, Abort, Done)]);
-    has_p(&rt, desk.seat(&rt, 1).graph());
-    has_p(&rt, desk.seat(&rt, 2).graph());
-    assert!(rt; desk.seat(&rt, 2).taken() == 1);
+    assert!(rt; desk.play(&[(2, Begin, Done), (2, Abort, Done)]) == None);
+    has_p(&rt, &desk, 1);
+    has_p(&rt, &desk, 2);
 }
 
 // There is no such store over the graph, for this fault.

@@ -2,7 +2,6 @@ ghost use Rattle.std.specs.Prelude.{IfOk};
 ghost use Rattle.tg_graph.specs.StepWords.{IsNamedStep};
 ghost use Rattle.tg_store.specs.Running.{IsOf};
 
-use crate::desks::{Desk, met};
 use std::alloc::{AllocError, Global};
 use std::test::Fail;
 use std::{process, thread};
@@ -10,9 +9,20 @@ use tg_graph::{Graph, Name, Reply, Right, Rights, Rule, Step};
 use tg_graph_trials::{graph, name};
 use tg_hall_trials::Deed::{Abort, Begin, Commit, Holds, Share, Take};
 use tg_hall_trials::Word::{Did, Done, No, Put, Yes};
-use tg_hall_trials::{shows, step_of};
+use tg_hall_trials::{Row, shows, step_of};
 use tg_store::{Begun, Committed, Seat, Session, Store};
-use tg_store_trials::{agreeing, opened};
+use tg_store_trials::{Desk, agreeing, met, opened};
+
+// Plays the rows, each of which is answered so.
+fn play(rt: &impl process::Abort, desk: &mut Desk, rows: &[Row]) {
+    assert!(rt; desk.play(rows) == None);
+}
+
+// The seat of the number has taken in so many records.
+fn has_taken(rt: &impl process::Abort, desk: &Desk, number: u32, taken: usize) {
+    let seat = desk.seat(number).expect(rt, "a free seat");
+    assert!(rt; seat.taken() == taken);
+}
 
 // A store of four cells, over the vertices a, b and c, where the first seat has put that a takes r
 // over c from b.
@@ -25,8 +35,8 @@ fn first_put(rt: &impl process::Abort, alloc: Global) -> Result<Desk, Fail> {
         (1, Take(*b"abc", b"r"), Did),
         (1, Commit, Put(0)),
     ];
-    desk.play(rt, &rows);
-    assert!(rt; desk.seat(rt, 1).taken() == 1);
+    play(rt, &mut desk, &rows);
+    has_taken(rt, &desk, 1, 1);
     Ok(desk)
 }
 
@@ -34,9 +44,9 @@ fn first_put(rt: &impl process::Abort, alloc: Global) -> Result<Desk, Fail> {
 #[test]
 fn nothing_put_in_passing(rt: HostRuntime) -> Result<(), Fail> {
     let mut desk = first_put(&rt, rt.alloc())?;
-    desk.meet(&rt);
-    desk.play(&rt, &[(2, Begin, Done), (2, Commit, Put(1))]);
-    assert!(rt; desk.seat(&rt, 2).taken() == 2);
+    assert!(rt; desk.meet() == Some(()));
+    play(&rt, &mut desk, &[(2, Begin, Done), (2, Commit, Put(1))]);
+    has_taken(&rt, &desk, 2, 2);
     Ok(())
 }
 
@@ -44,20 +54,21 @@ fn nothing_put_in_passing(rt: HostRuntime) -> Result<(), Fail> {
 #[test]
 fn seats_that_meet(rt: HostRuntime) -> Result<(), Fail> {
     let mut desk = first_put(&rt, rt.alloc())?;
-    desk.meet(&rt);
-    assert!(rt; desk.knows(&rt, 2, 0));
-    assert!(rt; !desk.knows(&rt, 2, 1));
-    assert!(rt; desk.agreed(&rt));
-    assert!(rt; !desk.agreed_alone(&rt));
-    assert!(rt; shows(desk.seat(&rt, 2).graph(), 3, &[(*b"ac", b"r")]));
+    assert!(rt; desk.meet() == Some(()));
+    assert!(rt; desk.knows(2, 0) == Some(true));
+    assert!(rt; desk.knows(2, 1) == Some(false));
+    assert!(rt; desk.agreed() == Some(true));
+    assert!(rt; desk.agreed_alone() == Some(false));
+    let two = desk.seat(2).expect(&rt, "a free seat");
+    assert!(rt; shows(two.graph(), 3, &[(*b"ac", b"r")]));
     let rows = [
         (2, Begin, Done),
         (2, Holds(Right::R, *b"ac"), Yes),
         (2, Share(Right::W, *b"ac"), No),
         (2, Abort, Done),
     ];
-    desk.play(&rt, &rows);
-    assert!(rt; desk.seat(&rt, 2).taken() == 1);
+    play(&rt, &mut desk, &rows);
+    has_taken(&rt, &desk, 2, 1);
     Ok(())
 }
 
@@ -69,36 +80,43 @@ fn owns_its_rows(rt: &impl process::Abort, seat: &Seat) {
     }
 }
 
+// Both seats are free, and no other graph has a row of theirs.
+fn share_no_rows(rt: &impl process::Abort, desk: &Desk) {
+    owns_its_rows(rt, desk.seat(1).expect(rt, "a free seat"));
+    owns_its_rows(rt, desk.seat(2).expect(rt, "a free seat"));
+}
+
 // Seats share no row, neither from the start nor once each has taken in what the other has put.
 #[test]
 fn seats_share_no_rows(rt: HostRuntime) -> Result<(), Fail> {
     let g = graph(rt.alloc(), "a b c", "a b t, b c r").expect(&rt, "a graph");
     let (store, one, two) = opened(rt.alloc(), &g, 4)?;
-    owns_its_rows(&rt, &one);
-    owns_its_rows(&rt, &two);
     let mut desk = Desk::new(store, one, two);
-    desk.play(
+    share_no_rows(&rt, &desk);
+    play(
         &rt,
+        &mut desk,
         &[
             (1, Begin, Done),
             (1, Take(*b"abc", b"r"), Did),
             (1, Commit, Put(0)),
         ],
     );
-    desk.meet(&rt);
-    desk.play(
+    assert!(rt; desk.meet() == Some(()));
+    play(
         &rt,
+        &mut desk,
         &[
             (2, Begin, Done),
             (2, Take(*b"abc", b"r"), Did),
             (2, Commit, Put(1)),
+            (1, Begin, Done),
+            (1, Abort, Done),
         ],
     );
-    desk.play(&rt, &[(1, Begin, Done), (1, Abort, Done)]);
-    assert!(rt; desk.seat(&rt, 1).taken() == 2);
-    assert!(rt; desk.seat(&rt, 2).taken() == 2);
-    owns_its_rows(&rt, desk.seat(&rt, 1));
-    owns_its_rows(&rt, desk.seat(&rt, 2));
+    has_taken(&rt, &desk, 1, 2);
+    has_taken(&rt, &desk, 2, 2);
+    share_no_rows(&rt, &desk);
     Ok(())
 }
 
@@ -195,8 +213,8 @@ fn united(rt: &impl process::Abort, store: &Store, one: Seat, two: Seat)
 {
     let (one, two, agreed) = agreeing(store, one, two);
     assert!(rt; !agreed);
-    let two = met(rt, store, two, &one);
-    let one = met(rt, store, one, &two);
+    let two = met(store, two, &one).expect(rt, "a front");
+    let one = met(store, one, &two).expect(rt, "a front");
     assert!(rt; one.graph().len() == 102);
     assert!(rt; same_vertices(one.graph(), two.graph()));
     let (_one, _two, agreed) = agreeing(store, one, two);

@@ -1,6 +1,0 @@
-//! The tests of `tg_hall` where one request for memory is refused. They stand apart from it so that it is proved
-//! once, and from its other tests so that both are proved at once.
-#![tactic(auto)]
-
-#[cfg(test)]
-mod memory_tests;
