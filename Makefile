@@ -8,8 +8,8 @@
 # make quick      tries, without a proof, the tests of the crates that have changed since origin/main, and
 #                 of those above them, and then the cases: minutes
 # make quick-all  the same of all crates
-# make test       the merge gate, rt ci: from nothing by estimate an hour and a half on four processors of
-#                 2.5 GHz; minutes where a toolchain keeps on its machine what it proved
+# make test       the merge gate, rt ci: from nothing by estimate two hours on four processors of 2.5 GHz;
+#                 minutes where a toolchain keeps on its machine what it proved
 # make bodies     the wrong bodies alone, ten at once
 # make refusals   the memory tests with each request for memory refused in turn: seconds, once the
 #                 gate or rt test has built the tests
